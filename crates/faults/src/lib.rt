@@ -1,0 +1,5 @@
+pub mod error;
+pub mod fault;
+pub mod fault_display;
+pub mod layer;
+pub mod reason;

@@ -1,0 +1,10 @@
+pub mod Service
+pub mod Figures
+pub mod Slices
+pub mod OwnService
+pub mod FixedService
+pub mod FloatService
+pub mod InnerService
+pub mod Runs
+pub mod Exactly
+pub mod Settings
