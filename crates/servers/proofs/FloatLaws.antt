@@ -172,18 +172,18 @@ module _ (p s : ℕ) (some : 0 < s) (fits : s ≤ p) where
         omega (arith, float-fresh n, float-late p s t g n (omega arith)))
         moves
 
-says-granted : (g s : ℕ) (x : Bool) → true ≡ (ltb g s && x) → g < s
+pub says-granted : (g s : ℕ) (x : Bool) → true ≡ (ltb g s && x) → g < s
 says-granted g s x e = grind (arith, tells)
 
-says-waits : (g s p t : ℕ) (c : Bool) → false ≡ (ltb g s && (not c || eqb (s - g) (p - t))) → (s ≤ g) ⊎ (s - g ≡ p - t → ⊥)
+pub says-waits : (g s p t : ℕ) (c : Bool) → false ≡ (ltb g s && (not c || eqb (s - g) (p - t))) → (s ≤ g) ⊎ (s - g ≡ p - t → ⊥)
 says-waits g s p t c e =
     ⊎-elim
     (λ h. inl h)
     (λ h. inr (λ q. grind (arith, tells)))
     (le-or-lt s g)
 
-moved-on : (t p t′ g′ new : ℕ) → t′ ≡ cond (ltb (t + 1) p) (t + 1) 0 → g′ ≡ cond (ltb (t + 1) p) new 0 → ((t + 1 < p) × (t′ ≡ t + 1) × (g′ ≡ new)) ⊎ ((p ≤ t + 1) × (t′ ≡ 0) × (g′ ≡ 0))
-moved-on t p t′ g′ new e f =
+pub float-moved-on : (t p t′ g′ new : ℕ) → t′ ≡ cond (ltb (t + 1) p) (t + 1) 0 → g′ ≡ cond (ltb (t + 1) p) new 0 → ((t + 1 < p) × (t′ ≡ t + 1) × (g′ ≡ new)) ⊎ ((p ≤ t + 1) × (t′ ≡ 0) × (g′ ≡ 0))
+float-moved-on t p t′ g′ new e f =
     ⊎-elim
     (λ h. inr (h, e ∙ ap (λ x. cond x (t + 1) 0) (le-ltb (t + 1) p h), f ∙ ap (λ x. cond x new 0) (le-ltb (t + 1) p h)))
     (λ h. inl (h, e ∙ ap (λ x. cond x (t + 1) 0) (lt-ltb (t + 1) p h), f ∙ ap (λ x. cond x new 0) (lt-ltb (t + 1) p h)))
@@ -192,10 +192,10 @@ moved-on t p t′ g′ new e f =
 float-sooner : (a b : Float) (c g : Bool) → Floats a c g b → Sooner g (float-wait (a .period) (a .slice) (a .passed) (a .given)) (float-wait (a .period) (a .slice) (b .passed) (b .given))
 float-sooner a b c true m =
     granted-sooner (a .period) (a .slice) (a .some) (a .within) (a .passed) (a .given) (b .passed) (b .given) (a .going) (a .most) (a .room)
-    (says-granted (a .given) (a .slice) _ (m .says)) (moved-on (a .passed) (a .period) (b .passed) (b .given) (a .given + 1) (m .passes) (m .gives))
+    (says-granted (a .given) (a .slice) _ (m .says)) (float-moved-on (a .passed) (a .period) (b .passed) (b .given) (a .given + 1) (m .passes) (m .gives))
 float-sooner a b c false m =
     passed-sooner (a .period) (a .slice) (a .some) (a .within) (a .passed) (a .given) (b .passed) (b .given) (a .going) (a .most) (a .room)
-    (says-waits (a .given) (a .slice) (a .period) (a .passed) c (m .says)) (moved-on (a .passed) (a .period) (b .passed) (b .given) (a .given) (m .passes) (m .gives))
+    (says-waits (a .given) (a .slice) (a .period) (a .passed) c (m .says)) (float-moved-on (a .passed) (a .period) (b .passed) (b .given) (a .given) (m .passes) (m .gives))
 
 pub float-moves : (a b : Float) (c g : Bool) → Floats a c g b → Ticks (float-service a) g (float-service b)
 float-moves a b c g m =

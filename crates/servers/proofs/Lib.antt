@@ -1,4 +1,5 @@
 pub mod FloatLaws
+pub mod GrantsExact
 pub mod OwnLaws
 pub mod Rounding
 pub mod SliceExact

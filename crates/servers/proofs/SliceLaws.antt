@@ -174,7 +174,7 @@ module _ (p s : ℕ) (some : 0 < s) (fits : s ≤ p) where
 pub fixed-laws : (f : Fixed) → Laws (fixed-service f)
 fixed-laws f = slice-laws (f .period) (f .slice) (f .some) (f .within) (f .position) (f .passed)
 
-moved-on : (at p next : ℕ) → next ≡ cond (ltb (at + 1) p) (at + 1) 0 → ((at + 1 < p) × (next ≡ at + 1)) ⊎ ((p ≤ at + 1) × (next ≡ 0))
+pub moved-on : (at p next : ℕ) → next ≡ cond (ltb (at + 1) p) (at + 1) 0 → ((at + 1 < p) × (next ≡ at + 1)) ⊎ ((p ≤ at + 1) × (next ≡ 0))
 moved-on at p next e =
     ⊎-elim
     (λ h. inr (h, e ∙ ap (λ t. cond t (at + 1) 0) (le-ltb (at + 1) p h)))

@@ -15,9 +15,13 @@ abbrev pub Ends-granted : List Tick → Type 0
 Ends-granted ts = (front : List Tick) × (t : Tick) × (ts ≡ front ++ (t ∷ [])) × (t .granted ≡ true)
 
 -- The n-th grant of a fixed slice comes exactly at its wait: after that many ticks n were granted, and the last of them was granted.
-abbrev pub Exactly : Fixed → Type 0
-Exactly f = (g : Fixed) (ts : List Tick) → Run Moves f ts g → (n : ℕ) → 0 < n → length ts ≡ fixed-service f .wait n → (grants ts ≡ n) × Ends-granted ts
+abbrev pub Exactly : Type 0
+Exactly = (f g : Fixed) (ts : List Tick) → Run Moves f ts g → (n : ℕ) → 0 < n → length ts ≡ fixed-service f .wait n → (grants ts ≡ n) × Ends-granted ts
 
--- A float grants its slice in each period, no more and no less, whatever others claim; then the next period begins as this one did.
-abbrev pub Each-period : Float → Type 0
-Each-period f = (g : Float) (ts : List Tick) → Run Floats f ts g → length ts ≡ f .period → (grants ts ≡ f .slice) × (g .passed ≡ 0) × (g .given ≡ 0)
+-- A float at the start of a period.
+abbrev pub Starts : Float → Type 0
+Starts f = (f .passed ≡ 0) × (f .given ≡ 0)
+
+-- A float grants its slice in each period, no more and no less, whatever others claim; then it stands at the start of the next.
+abbrev pub Each-period : Type 0
+Each-period = (f g : Float) (ts : List Tick) → Starts f → Run Floats f ts g → length ts ≡ f .period → (grants ts ≡ f .slice) × Starts g

@@ -1,5 +1,6 @@
 ghost use Prim.Native.Nat.{ℕ, _<_};
 ghost use mathlib.Core.Path.{_≡_};
+ghost use Rattle.servers.specs.Exactly.{Exactly};
 ghost use Rattle.servers.specs.Settings.{Makes-fixed};
 ghost use Rattle.servers.specs.Slices.{wait-at, worst-of};
 ghost use Rattle.servers.specs.FixedService.{fixed-service, Moves};
@@ -29,10 +30,11 @@ impl Fixed {
         })
     }
 
-    // A phase in which every wait is the worst: the slice has just closed.
+    // A phase in which every wait is the worst: the slice has just closed. And a wait is exact: the n-th grant comes at it.
     pub fn worst_phase(&self) -> u64
         ensures within { λ r. ⌜ r < now (self .entry) .period ⌝ }
         ensures attains { λ r. ⌜ ((n : ℕ) → wait-at (now (self .entry) .period) (now (self .entry) .slice) r n ≡ worst-of (now (self .entry) .period) (now (self .entry) .slice) n) ⌝ }
+        ensures exact { λ _. ⌜ Exactly ⌝ }
     {
         if self.slice < self.period {
             self.slice

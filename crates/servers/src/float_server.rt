@@ -1,3 +1,4 @@
+ghost use Rattle.servers.specs.Exactly.{Each-period};
 ghost use Rattle.servers.specs.Settings.{Makes-float};
 ghost use Rattle.servers.specs.FloatService.{float-service, Floats};
 use crate::figures::CEILING;
@@ -13,7 +14,8 @@ use faults::fault::Fault;
 impl Float {
     // A float has no phase but 0. `line` is where the settings stand in a sheet, 0 without one.
     pub fn new(settings: Settings, line: u32) -> Result<Float, Fault>
-        ensures { λ r. ⌜ Makes-float settings line r ⌝ }
+        ensures made { λ r. ⌜ Makes-float settings line r ⌝ }
+        ensures exact { λ _. ⌜ Each-period ⌝ }
     {
         let Settings { period, slice, phase } = settings;
         if period > 65_535 || slice == 0 || slice > period || phase != 0 {

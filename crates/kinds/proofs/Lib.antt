@@ -1,0 +1,2 @@
+pub mod AnyKindLaws
+pub mod StackLaws
