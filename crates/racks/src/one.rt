@@ -1,0 +1,58 @@
+ghost use mathlib.Core.Path.{_≡_};
+use crate::rack::no_place;
+use crate::rack::Rack;
+use faults::fault::Fault;
+use servers::server::Server;
+
+// A rack of one place.
+pub struct One<S> {
+    server: S,
+}
+
+impl<S> One<S> {
+    pub fn new(server: S) -> One<S>
+        ensures { λ r. ⌜ r .server ≡ server ⌝ }
+    {
+        One { server }
+    }
+}
+
+pub impl<S: Server> Rack for One<S> as OneRack {
+    ghost places = { λ _. 1 };
+
+    ghost service = { λ s _. S·Server .service (s .server) };
+
+    ghost steps = { λ a k c g b. (k ≡ 0) × S·Server .steps (a .server) c g (b .server) };
+
+    fn places(&self) -> usize {
+        1
+    }
+
+    fn tick(&mut self, place: usize, claimed: bool) -> Result<bool, Fault> {
+        if place != 0 {
+            return Err(no_place());
+        }
+        Ok(self.server.tick(claimed))
+    }
+
+    fn worst(&self, place: usize, n: u64) -> Result<u64, Fault> {
+        if place != 0 {
+            return Err(no_place());
+        }
+        self.server.worst(n)
+    }
+
+    fn lead(&self, place: usize) -> Result<u64, Fault> {
+        if place != 0 {
+            return Err(no_place());
+        }
+        self.server.lead()
+    }
+
+    fn pace(&self, place: usize, n: u64) -> Result<u64, Fault> {
+        if place != 0 {
+            return Err(no_place());
+        }
+        self.server.pace(n)
+    }
+}
