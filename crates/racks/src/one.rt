@@ -5,6 +5,7 @@ use faults::fault::Fault;
 use servers::server::Server;
 
 // A rack of one place.
+#[derive(Drop)]
 pub struct One<S> {
     server: S,
 }

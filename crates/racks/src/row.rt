@@ -7,6 +7,7 @@ use faults::fault::Fault;
 use servers::server::Server;
 
 // Servers of one type in a row, one to a place.
+#[derive(Drop)]
 pub struct Row<S> {
     servers: Vec<S>,
 }

@@ -9,6 +9,7 @@ use crate::rack::Rack;
 use faults::fault::Fault;
 
 // Two racks side by side: the places of the first, and then those of the second, as many as a usize counts.
+#[derive(Drop)]
 pub struct SideBySide<A, B> {
     first: A,
     second: B,
