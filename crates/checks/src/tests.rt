@@ -1,6 +1,7 @@
 use faults::fault::Fault;
 use faults::fault::FaultDebug;
 use faults::fault::FaultPartialEq;
+use faults::fault_display::FaultDisplay;
 use faults::layer::Layer;
 use faults::reason::Reason;
 use kinds::any_kind::AnyKind;
@@ -160,6 +161,18 @@ fn no_place() -> Fault {
     }
 }
 
+#[test]
+fn printed_line(rt: LibcRuntime) -> Result<(), Fail> {
+    let fault = Fault {
+        reason: Reason::TokenFreeRing,
+        layer: Layer::Graph,
+        line: 5,
+        field: 0,
+    };
+    let line = fault.to_string(rt.alloc())?;
+    check(line.as_str() == "refused graph 11 5 0")
+}
+
 // A sheet's task: a server of a kind with or without a layer.
 fn stack(kind: Kind, base: Settings, layer: Settings) -> Result<Stack<AnyKind>, Fault> {
     Stack::new(AnyKind::new(kind, base, 1)?, layer, 1)
@@ -170,7 +183,10 @@ fn rack_by_place(rt: LibcRuntime) -> Result<(), Fail> {
     let mut servers = Vec::new(rt.alloc());
     servers.push(stack(Kind::Fixed, settings(10, 4, 3), settings(3, 1, 0))?)?;
     servers.push(stack(Kind::Float, settings(10, 4, 0), settings(0, 0, 0))?)?;
-    let mut rack = SideBySide::new(One::new(Own), Row::new(servers));
+    let mut rack = SideBySide {
+        first: One { server: Own },
+        second: Row { servers },
+    };
     check_eq(rack.places(), 3)?;
     check_eq(rack.worst(1, 1), Ok(9))?;
     check_eq(rack.lead(2), Ok(12))?;

@@ -7,15 +7,7 @@ use servers::server::Server;
 // A rack of one place.
 #[derive(Drop)]
 pub struct One<S> {
-    server: S,
-}
-
-impl<S> One<S> {
-    pub fn new(server: S) -> One<S>
-        ensures { λ r. ⌜ r .server ≡ server ⌝ }
-    {
-        One { server }
-    }
+    pub server: S,
 }
 
 pub impl<S: Server> Rack for One<S> as OneRack {

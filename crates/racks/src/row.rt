@@ -1,4 +1,3 @@
-ghost use mathlib.Core.Path.{_≡_};
 ghost use Rattle.std.specs.Of.Vec.{vec-len, vec-items};
 ghost use Rattle.racks.specs.Rows.{row-service, Row-steps};
 use crate::rack::no_place;
@@ -9,15 +8,7 @@ use servers::server::Server;
 // Servers of one type in a row, one to a place.
 #[derive(Drop)]
 pub struct Row<S> {
-    servers: Vec<S>,
-}
-
-impl<S> Row<S> {
-    pub fn new(servers: Vec<S>) -> Row<S>
-        ensures { λ r. ⌜ r .servers ≡ servers ⌝ }
-    {
-        Row { servers }
-    }
+    pub servers: Vec<S>,
 }
 
 pub impl<S: Server> Rack for Row<S> as RowRack {

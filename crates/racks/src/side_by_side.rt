@@ -11,8 +11,8 @@ use faults::fault::Fault;
 // Two racks side by side: the places of the first, and then those of the second, as many as a usize counts.
 #[derive(Drop)]
 pub struct SideBySide<A, B> {
-    first: A,
-    second: B,
+    pub first: A,
+    pub second: B,
 }
 
 // A place of two racks side by side, as a place of one of them.
@@ -32,14 +32,6 @@ fn side_of(split: usize, place: usize) -> Result<Side, Fault>
         return Err(no_place());
     }
     Ok(Side::Second(place - split))
-}
-
-impl<A, B> SideBySide<A, B> {
-    pub fn new(first: A, second: B) -> SideBySide<A, B>
-        ensures { λ r. ⌜ (r .first ≡ first) × (r .second ≡ second) ⌝ }
-    {
-        SideBySide { first, second }
-    }
 }
 
 pub impl<A: Rack, B: Rack> Rack for SideBySide<A, B> as SideBySideRack {

@@ -1,5 +1,3 @@
-ghost use mathlib.Core.Bool.{true};
-ghost use mathlib.Core.Path.{_≡_};
 ghost use Rattle.servers.specs.Settings.{Makes-own};
 ghost use Rattle.servers.specs.OwnService.{own-service, Own-steps};
 use crate::figures::told;
