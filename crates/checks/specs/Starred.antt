@@ -8,7 +8,7 @@ use Rattle.servers.specs.Service.{Service}
 use Rattle.servers.specs.Figures.{ceiling}
 use Rattle.servers.specs.FixedService.{slice-service}
 use Rattle.servers.specs.FloatService.{float-at}
-use Rattle.servers.specs.InnerService.{within}
+use Rattle.layers.specs.InnerService.{within}
 
 -- Each computed figure is the expected one.
 abbrev pub all-agree : List (ℕ × ℕ) → Bool

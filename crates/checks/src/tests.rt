@@ -7,21 +7,21 @@ use faults::reason::Reason;
 use kinds::any_kind::AnyKind;
 use kinds::any_kind_server::AnyKindServer;
 use kinds::kind::Kind;
-use kinds::stack::Stack;
-use kinds::stack_server::StackServer;
+use layers::inner::Inner;
+use layers::inner_server::InnerServer;
+use layers::stack::Stack;
+use layers::stack_server::StackServer;
 use racks::one::One;
 use racks::one::OneRack;
 use racks::rack::Rack;
-use racks::row::Row;
-use racks::row::RowRack;
 use racks::side_by_side::SideBySide;
 use racks::side_by_side::SideBySideRack;
+use rows::Row;
+use rows::RowRack;
 use servers::fixed::Fixed;
 use servers::fixed_server::FixedServer;
 use servers::float::Float;
 use servers::float_server::FloatServer;
-use servers::inner::Inner;
-use servers::inner_server::InnerServer;
 use servers::own::Own;
 use servers::own_server::OwnServer;
 use servers::server::Server;
@@ -37,7 +37,12 @@ fn settings(period: u64, slice: u64, phase: u64) -> Settings {
 }
 
 // The pairs are n and the worst wait for n, and n and its pace.
-fn tells<S: Server>(server: &S, worst: &[(u64, u64)], lead: u64, pace: &[(u64, u64)]) -> Result<(), Fail> {
+fn tells<S: Server>(
+    server: &S,
+    worst: &[(u64, u64)],
+    lead: u64,
+    pace: &[(u64, u64)],
+) -> Result<(), Fail> {
     for (n, figure) in worst {
         check_eq(server.worst(*n)?, *figure)?;
     }
@@ -51,13 +56,23 @@ fn tells<S: Server>(server: &S, worst: &[(u64, u64)], lead: u64, pace: &[(u64, u
 #[test]
 fn worked_figures() -> Result<(), Fail> {
     let fixed = Fixed::new(settings(10, 4, 4), 0)?;
-    tells(&fixed, &[(0, 0), (1, 7), (4, 10), (5, 17), (12, 30)], 6, &[(5, 13), (6, 15)])?;
+    tells(
+        &fixed,
+        &[(0, 0), (1, 7), (4, 10), (5, 17), (12, 30)],
+        6,
+        &[(5, 13), (6, 15)],
+    )?;
     let float = Float::new(settings(10, 4, 0), 0)?;
     tells(&float, &[(0, 0), (1, 13), (4, 16), (5, 23)], 12, &[(5, 13)])?;
     let inner = Inner::new(fixed, settings(3, 1, 0), 0)?;
     tells(&inner, &[(1, 9), (2, 18)], 11, &[(1, 8)])?;
     let own = Own::new(settings(1, 1, 0), 0)?;
-    tells(&own, &[(0, 0), (1_000_000_000_000, 1_000_000_000_000)], 0, &[(7, 7)])
+    tells(
+        &own,
+        &[(0, 0), (1_000_000_000_000, 1_000_000_000_000)],
+        0,
+        &[(7, 7)],
+    )
 }
 
 fn above_ceiling() -> Fault {
@@ -119,7 +134,11 @@ fn settings_refused() -> Result<(), Fail> {
 }
 
 // The marks are of one tick each: in the claims 'x' is claimed, in the grants '#' is granted.
-fn grants<S: Server + Drop>(mut server: S, claims: &[u8; 20], marks: &[u8; 20]) -> Result<(), Fail> {
+fn grants<S: Server + Drop>(
+    mut server: S,
+    claims: &[u8; 20],
+    marks: &[u8; 20],
+) -> Result<(), Fail> {
     for (claim, mark) in claims.iter().zip(marks) {
         check_eq(server.tick(*claim == b'x'), *mark == b'#')?;
     }
@@ -132,8 +151,16 @@ fn grants_over_two_periods() -> Result<(), Fail> {
     let busy = b"xxxxxxxxxxxxxxxxxxxx";
     let mixed = b"x.xx..x.xxxxxxxx.xxx";
     grants(Own, busy, b"####################")?;
-    grants(Fixed::new(settings(10, 4, 7), 0)?, busy, b"...####......####...")?;
-    grants(Fixed::new(settings(10, 4, 7), 0)?, quiet, b"...####......####...")?;
+    grants(
+        Fixed::new(settings(10, 4, 7), 0)?,
+        busy,
+        b"...####......####...",
+    )?;
+    grants(
+        Fixed::new(settings(10, 4, 7), 0)?,
+        quiet,
+        b"...####......####...",
+    )?;
     let float = Float::new(settings(10, 4, 0), 0)?;
     grants(float, quiet, b"####......####......")?;
     grants(float, busy, b"......####......####")?;
@@ -145,11 +172,23 @@ fn grants_of_piles() -> Result<(), Fail> {
     let busy = b"xxxxxxxxxxxxxxxxxxxx";
     let mixed = b"x.xx..x.xxxxxxxx.xxx";
     let below = Fixed::new(settings(10, 4, 7), 0)?;
-    grants(Inner::new(below, settings(3, 1, 0), 0)?, busy, b"...#..#........#....")?;
+    grants(
+        Inner::new(below, settings(3, 1, 0), 0)?,
+        busy,
+        b"...#..#........#....",
+    )?;
     let float = Float::new(settings(10, 4, 0), 0)?;
-    grants(Inner::new(float, settings(3, 2, 1), 0)?, mixed, b".#...#.#.........##.")?;
+    grants(
+        Inner::new(float, settings(3, 2, 1), 0)?,
+        mixed,
+        b".#...#.#.........##.",
+    )?;
     let middle = Inner::new(float, settings(3, 2, 0), 0)?;
-    grants(Inner::new(middle, settings(2, 1, 0), 0)?, mixed, b".#.....#..........#.")
+    grants(
+        Inner::new(middle, settings(2, 1, 0), 0)?,
+        mixed,
+        b".#.....#..........#.",
+    )
 }
 
 fn no_place() -> Fault {

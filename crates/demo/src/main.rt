@@ -51,14 +51,20 @@ fn print_job(rt: &LibcRuntime, name: &str, job: &Job) -> io::Result<u64> {
         slice,
         phase,
     } = job.settings;
-    println!(rt, "{name}: slice {slice} of period {period}, phase {phase}")?;
+    println!(
+        rt,
+        "{name}: slice {slice} of period {period}, phase {phase}"
+    )?;
     let mut finish = 0;
     for time in &job.times {
         println!(rt, "granted at tick {time}")?;
         finish = *time;
     }
     let worst = job.worst;
-    println!(rt, "job of {WORK} ticks finished at tick {finish}, worst wait {worst}")?;
+    println!(
+        rt,
+        "job of {WORK} ticks finished at tick {finish}, worst wait {worst}"
+    )?;
     Ok(finish)
 }
 
@@ -67,7 +73,11 @@ fn run(rt: &LibcRuntime, job: &Job, blunder: &Job) -> io::Result<()> {
     print_job(rt, "with the closing tick counted as inside", blunder)?;
     let told = blunder.worst;
     if told < finish {
-        println!(rt, "the blunder tells {told}, and the job needs {finish}: too early by {}", finish - told)?;
+        println!(
+            rt,
+            "the blunder tells {told}, and the job needs {finish}: too early by {}",
+            finish - told
+        )?;
     }
     Ok(())
 }

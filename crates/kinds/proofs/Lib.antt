@@ -1,2 +1,1 @@
 pub mod AnyKindLaws
-pub mod StackLaws

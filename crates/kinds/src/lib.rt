@@ -1,5 +1,3 @@
 pub mod any_kind;
 pub mod any_kind_server;
 pub mod kind;
-pub mod stack;
-pub mod stack_server;

@@ -1,6 +1,6 @@
 ghost use mathlib.Core.Path.{_≡_};
-use crate::rack::no_place;
 use crate::rack::Rack;
+use crate::rack::no_place;
 use faults::fault::Fault;
 use servers::server::Server;
 

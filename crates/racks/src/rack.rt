@@ -45,7 +45,7 @@ pub trait Rack {
 }
 
 // The refusal of a place that a rack lacks.
-pub(crate) fn no_place() -> Fault
+pub fn no_place() -> Fault
     ensures { λ r. ⌜ r ≡ fault 13 At-runner 0 0 ⌝ }
 {
     Fault {

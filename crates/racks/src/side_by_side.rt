@@ -4,8 +4,8 @@ ghost use Rattle.std.specs.Results.{Cases};
 ghost use Rattle.faults.specs.Faults.{fault};
 ghost use Rattle.faults.specs.declared.layer.Layer.the-variants.{Runner as At-runner};
 ghost use Rattle.racks.specs.Beside.{places-beside, beside, Sided, On-side};
-use crate::rack::no_place;
 use crate::rack::Rack;
+use crate::rack::no_place;
 use faults::fault::Fault;
 
 // Two racks side by side: the places of the first, and then those of the second, as many as a usize counts.

@@ -23,9 +23,9 @@ pub fixed-granted : (a b : Fixed) (c : Bool) → Moves a c true b → (n : ℕ) 
 fixed-granted a b c m n =
     let lo = fixed-moves a b c true m .sooner n in
     let hi : fixed-service a .wait (n + 1) ≤ fixed-service b .wait n + 1 =
-        rw (m .same-period, m .same-slice)
-        (granted-later (a .period) (a .slice) (a .some) (a .within) (a .position) (b .position) (a .passed)
-        (moved-on (a .position) (a .period) (b .position) (m .goes)) (ltb-true (a .position) (a .slice) (sym (m .says))) n) in
+    rw (m .same-period, m .same-slice)
+    (granted-later (a .period) (a .slice) (a .some) (a .within) (a .position) (b .position) (a .passed)
+    (moved-on (a .position) (a .period) (b .position) (m .goes)) (ltb-true (a .position) (a .slice) (sym (m .says))) n) in
     omega arith
 
 -- Another tick takes just one tick off the wait.
@@ -33,9 +33,9 @@ pub fixed-passed : (a b : Fixed) (c : Bool) → Moves a c false b → (n : ℕ) 
 fixed-passed a b c m n h =
     let lo = fixed-moves a b c false m .sooner n h in
     let hi : fixed-service a .wait n ≤ fixed-service b .wait n + 1 =
-        rw (m .same-period, m .same-slice)
-        (passed-later (a .period) (a .slice) (a .some) (a .within) (a .position) (b .position) (a .passed)
-        (moved-on (a .position) (a .period) (b .position) (m .goes)) (ltb-false (a .position) (a .slice) (sym (m .says))) n h) in
+    rw (m .same-period, m .same-slice)
+    (passed-later (a .period) (a .slice) (a .some) (a .within) (a .position) (b .position) (a .passed)
+    (moved-on (a .position) (a .period) (b .position) (m .goes)) (ltb-false (a .position) (a .slice) (sym (m .says))) n h) in
     omega arith
 
 -- what a tick adds to the grants

@@ -6,4 +6,3 @@ pub mod RunLaws
 pub mod SliceExact
 pub mod SliceLaws
 pub mod Told
-pub mod WithinLaws

@@ -4,7 +4,6 @@ pub mod Slices
 pub mod OwnService
 pub mod FixedService
 pub mod FloatService
-pub mod InnerService
 pub mod Runs
 pub mod Exactly
 pub mod Settings

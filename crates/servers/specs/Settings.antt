@@ -6,12 +6,10 @@ use Rattle.std.specs.declared.result.Result.{Result}
 use Rattle.faults.specs.Faults.{fault}
 use Rattle.faults.specs.declared.fault.Fault.{Fault}
 use Rattle.faults.specs.declared.layer.Layer.the-variants.{Server}
-use Rattle.servers.specs.Exactly.{Exactly, Each-period}
 use Rattle.servers.specs.declared.settings.Settings.{Settings}
 use Rattle.servers.specs.declared.own.Own.{Own}
 use Rattle.servers.specs.declared.fixed.Fixed.{Fixed}
 use Rattle.servers.specs.declared.float.Float.{Float}
-use Rattle.servers.specs.declared.inner.Inner.{Inner}
 
 -- A legal slice of a period.
 pub record Legal-slice (s : Settings) : Type 0 where
@@ -47,7 +45,3 @@ Is-float s f = (f .period ≡ s .period) × (f .slice ≡ s .slice) × (f .passe
 
 abbrev pub Makes-float : Settings → ℕ → Result Float Fault → Type 0
 Makes-float s = Makes (Legal-float s) (Is-float s)
-
--- A layer is a fixed slice over what stands below.
-abbrev pub Makes-inner : {S : Type 0} → S → Settings → ℕ → Result (Inner S) Fault → Type 0
-Makes-inner below s = Makes (Legal-fixed s) (λ i. (i .below ≡ below) × Is-fixed s (i .slice))

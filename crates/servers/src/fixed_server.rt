@@ -8,8 +8,8 @@ use crate::figures::CEILING;
 use crate::figures::told;
 use crate::fixed::Fixed;
 use crate::server::Server;
-use crate::settings::refused;
 use crate::settings::Settings;
+use crate::settings::refused;
 use crate::slices::slice_pace;
 use crate::slices::slice_worst;
 use faults::fault::Fault;
@@ -19,7 +19,11 @@ impl Fixed {
     pub fn new(settings: Settings, line: u32) -> Result<Fixed, Fault>
         ensures { λ r. ⌜ Makes-fixed settings line r ⌝ }
     {
-        let Settings { period, slice, phase } = settings;
+        let Settings {
+            period,
+            slice,
+            phase,
+        } = settings;
         if period > 65_535 || slice == 0 || slice > period || phase >= period {
             return Err(refused(line));
         }

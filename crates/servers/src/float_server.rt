@@ -5,8 +5,8 @@ use crate::figures::CEILING;
 use crate::figures::told;
 use crate::float::Float;
 use crate::server::Server;
-use crate::settings::refused;
 use crate::settings::Settings;
+use crate::settings::refused;
 use crate::slices::slice_pace;
 use crate::slices::slice_worst;
 use faults::fault::Fault;
@@ -17,7 +17,11 @@ impl Float {
         ensures made { λ r. ⌜ Makes-float settings line r ⌝ }
         ensures exact { λ _. ⌜ Each-period ⌝ }
     {
-        let Settings { period, slice, phase } = settings;
+        let Settings {
+            period,
+            slice,
+            phase,
+        } = settings;
         if period > 65_535 || slice == 0 || slice > period || phase != 0 {
             return Err(refused(line));
         }

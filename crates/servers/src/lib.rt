@@ -3,8 +3,6 @@ pub mod fixed;
 pub mod fixed_server;
 pub mod float;
 pub mod float_server;
-pub mod inner;
-pub mod inner_server;
 pub mod own;
 pub mod own_server;
 pub mod server;

@@ -3,8 +3,8 @@ ghost use Rattle.servers.specs.OwnService.{own-service, Own-steps};
 use crate::figures::told;
 use crate::own::Own;
 use crate::server::Server;
-use crate::settings::refused;
 use crate::settings::Settings;
+use crate::settings::refused;
 use faults::fault::Fault;
 
 impl Own {

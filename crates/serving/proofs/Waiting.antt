@@ -65,7 +65,7 @@ module _ {S : Type 0} (m : Model S) where
       let s′ : m .steps b c false d = rw e at s in
       record {
         went = rw (misses-more c k) (run-append (m .steps) a b d (misses c k) (tick c false ∷ []) (w .went) (d, s′, refl));
-        sooner = λ n h. omega (arith, w .sooner n h, m .moves b d c false s′ .sooner n h)
+        sooner = λ n h. omega (arith, w .sooner n h, m .moves b d c false s′ .sooner n h);
       }
 
   pub missed-ends : (a b d : S) (c g : Bool) (k : ℕ) → Missed a c k b → m .steps b c g d → g ≡ true → Waited (m .service) (m .steps) a c k d
@@ -73,7 +73,7 @@ module _ {S : Type 0} (m : Model S) where
       let s′ : m .steps b c true d = rw e at s in
       record {
         went = run-append (m .steps) a b d (misses c k) (tick c true ∷ []) (w .went) (d, s′, refl);
-        sooner = λ n. omega (arith, w .sooner (n + 1) (omega arith), m .moves b d c true s′ .sooner n)
+        sooner = λ n. omega (arith, w .sooner (n + 1) (omega arith), m .moves b d c true s′ .sooner n);
       }
 
   -- What a job has come to after its first grants, at these times.
@@ -96,7 +96,7 @@ module _ {S : Type 0} (m : Model S) where
     ends = refl;
     last = refl;
     soon = λ i h. absurd (omega arith);
-    sooner = λ n. let e : 0 + n ≡ n = omega arith in rw e (omega arith)
+    sooner = λ n. let e : 0 + n ≡ n = omega arith in rw e (omega arith);
   }
 
   pub part-more : (a b d : S) (c : Bool) (clock k : ℕ) (times : List ℕ) → Part a c clock times b → Waited (m .service) (m .steps) b c k d → Part a c (clock + (k + 1)) (times ++ ((clock + (k + 1)) ∷ [])) d
@@ -112,15 +112,15 @@ module _ {S : Type 0} (m : Model S) where
         ends = omega (arith, length-append (p .ticks) us, length-misses c k, p .ends);
         last = sym (latest-push 0 now times);
         soon = λ i h. ⊎-elim
-        (λ over.
-        let e : length times ≡ i = omega arith in
-        let n = ap (λ x. m .service a .wait (x + 1)) e in
-        omega (arith, getD-push times now 0 i e, w .sooner 0, p .sooner 1))
-        (λ below. omega (arith, getD-append-left times (now ∷ []) 0 i below, p .soon i below))
-        (le-or-lt (length times) i);
+            (λ over.
+            let e : length times ≡ i = omega arith in
+            let n = ap (λ x. m .service a .wait (x + 1)) e in
+            omega (arith, getD-push times now 0 i e, w .sooner 0, p .sooner 1))
+            (λ below. omega (arith, getD-append-left times (now ∷ []) 0 i below, p .soon i below))
+            (le-or-lt (length times) i);
         sooner = λ n.
-        let e = ap (m .service a .wait) (let e : length (times ++ (now ∷ [])) + n ≡ length times + (n + 1) = omega arith in e) in
-        omega (arith, w .sooner n, p .sooner (n + 1))
+            let e = ap (m .service a .wait) (let e : length (times ++ (now ∷ [])) + n ≡ length times + (n + 1) = omega arith in e) in
+            omega (arith, w .sooner n, p .sooner (n + 1));
       }
     where
       times-joined : {xs ys us vs : List ℕ} → xs ≡ ys → us ≡ vs → xs ++ us ≡ ys ++ vs
@@ -146,5 +146,5 @@ module _ {S : Type 0} (m : Model S) where
         when = q .when;
         whole = e;
         ends = q .ends ∙ q .last;
-        soon = λ j k. q .soon j (omega arith)
+        soon = λ j k. q .soon j (omega arith);
       }

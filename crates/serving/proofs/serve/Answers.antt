@@ -45,7 +45,9 @@ pub returns : need.returns
 returns g c =
     let l = c .loop-time in
     record {
-      served = (c .in-Continue--worst .ensures tt .1,
-      part-whole (model g) (c .args .server .now) (l .server) (c .args .claimed) (l .clock) (l .time-index) (length (c .args .times .now)) (l .times) (omega arith) (l .kept .times) (l .inv));
-      in-time = in-time (model g)
+      served = (
+        c .in-Continue--worst .ensures tt .1,
+        part-whole (model g) (c .args .server .now) (l .server) (c .args .claimed) (l .clock) (l .time-index) (length (c .args .times .now)) (l .times) (omega arith) (l .kept .times) (l .inv),
+      );
+      in-time = in-time (model g);
     }

@@ -20,5 +20,5 @@ returns c =
     let a = c .args in
     record {
       value = omega (arith, ap (λ k. (a .period - a .slice) * k) (c .rounded-up .ensures));
-      bound = omega (arith, gaps (a .period) (a .slice) (a .n) (c .rounded-up .result) (c .pre .short) (c .pre .near) (c .pre .within) (c .rounded-up .ensures))
+      bound = omega (arith, gaps (a .period) (a .slice) (a .n) (c .rounded-up .result) (c .pre .short) (c .pre .near) (c .pre .within) (c .rounded-up .ensures));
     }

@@ -1,0 +1,2 @@
+pub mod InnerService
+pub mod Stacks

@@ -1,0 +1,4 @@
+pub mod inner;
+pub mod inner_server;
+pub mod stack;
+pub mod stack_server;
