@@ -12,4 +12,6 @@ pub fn worked_figures() -> usize
 }
 
 #[cfg(test)]
-mod tests;
+mod belt_tests;
+#[cfg(test)]
+mod server_tests;

@@ -1,0 +1,4 @@
+pub mod Turned
+pub mod Rings
+pub mod Belts
+pub mod Histories

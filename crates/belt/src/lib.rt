@@ -1,0 +1,4 @@
+pub mod belt;
+mod belt_calls;
+pub mod returned;
+mod ring;
