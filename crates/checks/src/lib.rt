@@ -14,4 +14,6 @@ pub fn worked_figures() -> usize
 #[cfg(test)]
 mod belt_tests;
 #[cfg(test)]
+mod graph_tests;
+#[cfg(test)]
 mod server_tests;

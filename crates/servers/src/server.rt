@@ -19,13 +19,15 @@ pub trait Server {
     fn tick(&mut self, claimed: bool) -> bool
         ensures { λ granted. ⌜ steps (now (self .entry)) claimed granted (now (self .exit)) ⌝ };
 
-    // The worst wait for n grants.
+    // The worst wait for n grants, from any state.
     fn worst(&self, n: u64) -> Result<u64, Fault>
         ensures { λ r. ⌜ Tells (service (now (self .entry)) .worst n) r ⌝ };
 
+    // The lead: the latency, what the server may keep a task waiting at first.
     fn lead(&self) -> Result<u64, Fault>
         ensures { λ r. ⌜ Tells (service (now (self .entry)) .lead) r ⌝ };
 
+    // The pace: the ticks that n grants take at the server's rate.
     fn pace(&self, n: u64) -> Result<u64, Fault>
         ensures { λ r. ⌜ Tells (service (now (self .entry)) .pace n) r ⌝ };
 }
