@@ -1,0 +1,3 @@
+mod bytes;
+pub mod cell;
+pub mod line;

@@ -1,0 +1,4 @@
+pub mod Text
+pub mod Spans
+pub mod Shapes
+pub mod Left
