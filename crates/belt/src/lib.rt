@@ -1,3 +1,5 @@
+#![tactic(auto)]
+
 pub mod belt;
 mod belt_calls;
 pub mod returned;

@@ -1,3 +1,5 @@
+#![tactic(auto)]
+
 use reader::room::Room;
 use report::report::report;
 use std::io;

@@ -1,3 +1,5 @@
+#![tactic(auto)]
+
 mod bytes;
 pub mod cell;
 pub mod line;

@@ -1,3 +1,5 @@
+#![tactic(auto)]
+
 ghost use Rattle.std.specs.Prelude.{◌≡◌, true, length};
 ghost use Rattle.checks.specs.Starred.{starred, all_agree};
 ghost use Rattle.checks.specs.StarredBounds.{starred_bounds};

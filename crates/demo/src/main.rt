@@ -1,3 +1,5 @@
+#![tactic(auto)]
+
 // One job served on a slice in its worst phase, and on the same slice as the known blunder counts it, with its closing tick inside.
 use faults::error::Error;
 use servers::fixed::Fixed;

@@ -1,3 +1,5 @@
+#![tactic(auto)]
+
 ghost use Rattle.flow.specs.FinishLaws.{GraphsSound, OneBound, BoundExists, BoundRises, LeadAndPaceLater};
 ghost use Rattle.flow.specs.Lone.{LoneBounds};
 ghost use Rattle.flow.specs.RingLaws.{Potential, OneStart, OneCycle, LoneFigures};

@@ -1,3 +1,5 @@
+#![tactic(auto)]
+
 pub mod graph;
 pub mod graph_new;
 mod legal;

@@ -1,2 +1,4 @@
+#![tactic(auto)]
+
 pub mod column;
 pub mod table;

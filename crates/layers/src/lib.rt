@@ -1,3 +1,5 @@
+#![tactic(auto)]
+
 pub mod inner;
 pub mod inner_server;
 pub mod stack;

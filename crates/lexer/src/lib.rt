@@ -1,3 +1,5 @@
+#![tactic(auto)]
+
 pub mod fields;
 mod fields_next;
 pub mod lines;

@@ -1,2 +1,4 @@
+#![tactic(auto)]
+
 pub mod name;
 mod name_calls;

@@ -1,3 +1,5 @@
+#![tactic(auto)]
+
 pub mod one;
 pub mod rack;
 pub mod side_by_side;

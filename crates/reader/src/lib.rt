@@ -1,3 +1,5 @@
+#![tactic(auto)]
+
 mod lists;
 pub mod read;
 mod reading;

@@ -1,3 +1,5 @@
+#![tactic(auto)]
+
 mod figures;
 mod lines;
 pub mod report;

@@ -1,3 +1,5 @@
+#![tactic(auto)]
+
 ghost use Rattle.std.specs.Prelude.{vec_len};
 ghost use Rattle.rows.specs.Rows.{row_service, RowSteps};
 ghost use Rattle.rows.specs.RowLaws.{row_keeps, row_at, row_same, row_other};

@@ -1,3 +1,5 @@
+#![tactic(auto)]
+
 ghost use Rattle.runs.specs.Claims.{OnTime, Paced, Steady, Records, NotEarly};
 ghost use Rattle.runs.specs.Exact.{Exact, NoSmaller, slice_at, slice_steps};
 ghost use Rattle.runs.specs.Sample.{Sample, sample_places, sample_service, sample_steps};

@@ -1,3 +1,5 @@
+#![tactic(auto)]
+
 pub mod figures;
 pub mod fixed;
 pub mod fixed_server;

@@ -1,3 +1,5 @@
+#![tactic(auto)]
+
 ghost use Rattle.std.specs.Prelude.{◌≤◌};
 ghost use Rattle.servers.specs.Figures.{ceiling};
 ghost use Rattle.servers.specs.Runs.{InTime};

@@ -1,3 +1,5 @@
+#![tactic(auto)]
+
 use lexer::lines::Lines;
 use reader::room::Room;
 use report::report::report;

@@ -1,3 +1,5 @@
+#![tactic(auto)]
+
 pub mod edge;
 pub mod entry;
 pub mod lines;

@@ -1,3 +1,5 @@
+#![tactic(auto)]
+
 ghost use Rattle.std.specs.Prelude.{◌∷◌, decimal};
 ghost use Rattle.texts.specs.Puts.{Puts};
 

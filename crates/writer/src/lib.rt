@@ -1,3 +1,5 @@
+#![tactic(auto)]
+
 ghost use Rattle.sheets.specs.Pages.{write as written};
 ghost use Rattle.std.specs.Prelude.{Result};
 ghost use Rattle.faults.specs.declared.fault.Fault.{Fault};
