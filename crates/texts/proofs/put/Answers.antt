@@ -10,4 +10,4 @@ puts v bs w P (Err _) e h k = record { kept = ap (Î» l. take (vec_len v) l) e âˆ
 
 pub returns : goal.returns
 returns c =
-    puts _ _ _ _ c.extend-from-slice.result c.extend-from-slice.ensures.items c.extend-from-slice.ensures.capacity c.extend-from-slice.ensures.cases
+    puts _ _ _ _ c.extend_from_slice.result c.extend_from_slice.ensures.items c.extend_from_slice.ensures.capacity c.extend_from_slice.ensures.cases

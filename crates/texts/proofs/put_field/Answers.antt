@@ -3,4 +3,4 @@ use Rattle.texts.proofs.Chains.{next}
 use Rattle.texts.proofs.put_field.Goals as goal
 
 pub returns : goal.returns
-returns c = next _ _ c.put-number.result c.in-ok-put.ensures c.put-number.ensures
+returns c = next _ _ c.put_number.result c.in_ok-put.ensures c.put_number.ensures

@@ -12,7 +12,7 @@ back : (s : Sheet) (r : Result Sheet Fault) → Legal (page s) → Says (write (
 back s r h says = (reads_is _ r says).back (page s) (record { is = refl; legal = h })
 
 pub returns-in-Ok : goal.returns-in-Ok
-returns-in-Ok c = record { appends = search rules; reads-back = back c.args.sheet.now }
+returns-in-Ok c = record { appends = search rules; reads_back = back c.args.sheet.now }
 
 pub returns-in-Err : goal.returns-in-Err
-returns-in-Err c = record { appends = search rules; reads-back = back c.args.sheet.now }
+returns-in-Err c = record { appends = search rules; reads_back = back c.args.sheet.now }

@@ -5,8 +5,8 @@ use Rattle.std.proofs.lemmas.List.{at_drop_more, at_drop_all}
 use Rattle.cells.specs.Bytes.{plains}
 use Rattle.cells.proofs.bytes.all_plain.Goals as goal
 
-pub returns-then-not-is-plain : goal.returns-then-not-is-plain
-returns-then-not-is-plain c =
+pub returns-then-not-is_plain : goal.returns-then-not-is_plain
+returns-then-not-is_plain c =
     let more = at_drop_more plains c.args.b.now c.loop-x.x-index 0 (omega arith) in
     let inv = c.loop-x.invariant in
     grind (arith, nat_tests)

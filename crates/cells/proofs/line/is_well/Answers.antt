@@ -18,8 +18,8 @@ loop-i-preserved c =
     let inv = c.loop-i.invariant in
     grind (arith, nat_tests)
 
-pub returns-then-not-is-allowed : goal.returns-then-not-is-allowed
-returns-then-not-is-allowed c =
+pub returns-then-not-is_allowed : goal.returns-then-not-is_allowed
+returns-then-not-is_allowed c =
     let more = at_drop_more well c.args.line.now c.loop-i.i 0 (omega arith) in
     let inv = c.loop-i.invariant in
     grind (arith, nat_tests)

@@ -10,7 +10,7 @@ search-preserved c =
     let v : ℕ = c.search.task in (
       c.loop-edge.invariant.0,
       below_more (λ (u : ℕ). OnRing es u → ⊥) v c.search.invariant.1
-          (λ on. let b = ring_back es v c.reach-from-marked.result c.reach-from-marked.ensures on in c.loop-edge.invariant.1 b.1 b.0 (omega (arith, b.3.there)) b.3 b.2),
+          (λ on. let b = ring_back es v c.reach_from-marked.result c.reach_from-marked.ensures on in c.loop-edge.invariant.1 b.1 b.0 (omega (arith, b.3.there)) b.3 b.2),
     )
 
 pub returns-then-marked-edge : goal.returns-then-marked-edge
@@ -20,7 +20,7 @@ returns-then-marked-edge c =
     let k : ℕ = c.loop-edge.edge_index in
     record {
       there = c.search-test.true;
-      on = ring_by es v (edge_at es k).from k c.reach-from-marked.result c.reach-from-marked.ensures c.if-marked-edge.true
+      on = ring_by es v (edge_at es k).from k c.reach_from-marked.result c.reach_from-marked.ensures c.if-marked-edge.true
           (record { there = c.loop-edge-test.true; from = refl; to = c.if-edge-task.true; none = c.if-edge-eq0.true });
       first = c.search.invariant.1;
     }

@@ -8,5 +8,5 @@ use Rattle.headings.proofs.table.is_heading.Goals as goal
 pub returns : goal.returns
 returns c =
     let cols = ap (map column_word) c.columns.ensures in
-    let e = c.names-columns.ensures in
+    let e = c.names_columns.ensures in
     λ w. (λ h. heading_from c.args.line.now c.args.table w (e.0 h ∙ cols), λ h. e.1 (ap fields h ∙ heading_fields c.args.table ∙ sym cols))

@@ -13,19 +13,19 @@ loop-column-preserved c =
     let i = c.loop-column.column-index in
     let lt : i < length cs = omega arith in
     let d = ap (map column_word) (drop_more cs i Goal lt) in
-    let named = c.is-column.ensures.0 c.if-not-is-column.false in
+    let named = c.is_column.ensures.0 c.if-not-is_column.false in
     let took = took_word _ c.loop-column.rest c.next-token.result c.next-token.new.self _ c.next-token.ensures named in
     let on = word_on _ _ _ _ (drop _ cs) took named in
     let inv = c.loop-column.invariant in
     (λ h. on.0 (inv.0 h ∙ d), λ h. inv.1 (on.1 h ∙ sym d))
 
-pub returns-then-not-is-column : goal.returns-then-not-is-column
-returns-then-not-is-column c =
+pub returns-then-not-is_column : goal.returns-then-not-is_column
+returns-then-not-is_column c =
     let cs = c.args.columns.now in
     let i = c.loop-column.column-index in
     let lt : i < length cs = omega arith in
     let d = ap (map column_word) (drop_more cs i Goal lt) in
-    (λ h. absurd (false≢true h), λ h. absurd (not_word _ c.loop-column.rest c.next-token.result c.next-token.new.self (get_or cs i Goal) _ c.next-token.ensures (λ p. both_ways _ c.if-not-is-column.true (c.is-column.ensures.1 p)) (c.loop-column.invariant.0 h ∙ d)))
+    (λ h. absurd (false≢true h), λ h. absurd (not_word _ c.loop-column.rest c.next-token.result c.next-token.new.self (get_or cs i Goal) _ c.next-token.ensures (λ p. both_ways _ c.if-not-is_column.true (c.is_column.ensures.1 p)) (c.loop-column.invariant.0 h ∙ d)))
 
 pub returns : goal.returns
 returns c =

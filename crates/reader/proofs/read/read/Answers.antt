@@ -38,45 +38,45 @@ ring_free p x s n =
 unique : {A : Type 0} → A → record { reads : A; one : OneMeaning }
 unique a = record { reads = a; one = one_meaning }
 
-pub returns-in-err-goal : goal.returns-in-err-goal
-returns-in-err-goal c = unique (refused_is c.args.text.now c.from-residual.result _ c.from-residual.ensures.1 (in_line (first_is (checks c.args.text.now) _ c.in-err-goal.ensures)))
+pub returns-in_err-goal : goal.returns-in_err-goal
+returns-in_err-goal c = unique (refused_is c.args.text.now c.from-residual.result _ c.from-residual.ensures.1 (in_line (first_is (checks c.args.text.now) _ c.in_err-goal.ensures)))
 
-pub returns-in-err-graph : goal.returns-in-err-graph
-returns-in-err-graph c =
+pub returns-in_err-graph : goal.returns-in_err-graph
+returns-in_err-graph c =
     let t = c.args.text.now in
-    let x = c.in-ok-goal.field-0 in
-    let read = c.in-ok-goal.ensures in
+    let x = c.in_ok-goal.field-0 in
+    let read = c.in_ok-goal.ensures in
     let fine = taken_is t read.0 in
-    let r = c.from-residual-in-err-graph in
+    let r = c.from-residual-in_err-graph in
     unique
     (refused_is t r.result _ r.ensures.1
-    (graph_refused t (meaning t) _ x.goal (vec_items x.tasks.parts) (vec_items x.edges) fine.0 fine.1 read.1.goal (parts_are (meaning t) x read.1) read.1.edges c.in-err-graph.ensures))
+    (graph_refused t (meaning t) _ x.goal (vec_items x.tasks.parts) (vec_items x.edges) fine.0 fine.1 read.1.goal (parts_are (meaning t) x read.1) read.1.edges c.in_err-graph.ensures))
 
-pub returns-in-err-check-rack : goal.returns-in-err-check-rack
-returns-in-err-check-rack c =
+pub returns-in_err-check_rack : goal.returns-in_err-check_rack
+returns-in_err-check_rack c =
     let t = c.args.text.now in
     let p = meaning t in
-    let x = c.in-ok-goal.field-0 in
-    let read = c.in-ok-goal.ensures in
+    let x = c.in_ok-goal.field-0 in
+    let read = c.in_ok-goal.ensures in
     let fine = taken_is t read.0 in
-    let made = c.in-ok-graph.ensures in
-    let g = c.in-ok-graph.graph in
-    let r = c.from-residual-in-err-check-rack in
+    let made = c.in_ok-graph.ensures in
+    let g = c.in_ok-graph.graph in
+    let r = c.from-residual-in_err-check_rack in
     let say = read.1 in
     let free = ring_free p x say made.0.no_ring in
     unique
     (refused_is t r.result _ r.ensures.1
-    (rack_refused t p g (vec_items x.tasks.servers) _ _ fine.0 fine.1 free (fitted p x g say made.1) x.tasks.servers.ok.0 c.in-err-check-rack.ensures))
+    (rack_refused t p g (vec_items x.tasks.servers) _ _ fine.0 fine.1 free (fitted p x g say made.1) x.tasks.servers.ok.0 c.in_err-check_rack.ensures))
 
 pub returns : goal.returns
 returns c =
     let t = c.args.text.now in
     let p = meaning t in
-    let x = c.in-ok-goal.field-0 in
-    let read = c.in-ok-goal.ensures in
+    let x = c.in_ok-goal.field-0 in
+    let read = c.in_ok-goal.ensures in
     let fine = taken_is t read.0 in
-    let made = c.in-ok-graph.ensures in
-    let g = c.in-ok-graph.graph in
+    let made = c.in_ok-graph.ensures in
+    let g = c.in_ok-graph.graph in
     let say = read.1 in
     let s : Sheet = record { tasks = x.tasks.tasks; graph = g; rack = record { servers = x.tasks.servers } } in
-    unique (reads_is t (Ok s) (accepted t p s fine.0 fine.1 (ring_free p x say made.0.no_ring) say.tasks.are (fitted p x g say made.1) c.in-ok-check-rack.ensures))
+    unique (reads_is t (Ok s) (accepted t p s fine.0 fine.1 (ring_free p x say made.0.no_ring) say.tasks.are (fitted p x g say made.1) c.in_ok-check_rack.ensures))

@@ -11,8 +11,8 @@ use Rattle.reader.proofs.LinesMore.{known, length_known}
 use Rattle.reader.proofs.Steps.{handed_on}
 use Rattle.reader.proofs.reading.edge_table.Goals as goal
 
-pub returns-in-err-heading-in : goal.returns-in-err-heading-in
-returns-in-err-heading-in c =
+pub returns-in_err-heading_in : goal.returns-in_err-heading_in
+returns-in_err-heading_in c =
     let ls = lines_left c.args.lines.now in
     let ts = c.args.tasks.now in
     let r = c.from-residual in
@@ -20,4 +20,4 @@ returns-in-err-heading-in c =
     let at = length_known ts in
     handed_on r.result _ (edge_table (known ts) ls) _ r.ensures.1
     (first_within (exact_checks (heading table.Edges) (6 + length (known ts)) (get_or ls 0 [])) (edges_checks (known ts) 0 (drop 1 ls)) _
-    ((λ i. first (exact_checks (heading table.Edges) (6 + at i) (sym line i))) ∙ c.in-err-heading-in.ensures))
+    ((λ i. first (exact_checks (heading table.Edges) (6 + at i) (sym line i))) ∙ c.in_err-heading_in.ensures))

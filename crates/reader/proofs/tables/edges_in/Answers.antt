@@ -16,8 +16,8 @@ each-init c =
     let ls = lines_left c.args.lines.now in
     ((λ i. first (edges_checks ns (length (sym none i)) ls)), (λ i. sym none i ++ map (edge_of ns) ls), omega (arith, ap length none), c.requires.wide)
 
-pub returns-in-err-edge : goal.returns-in-err-edge
-returns-in-err-edge c =
+pub returns-in_err-edge : goal.returns-in_err-edge
+returns-in_err-edge c =
     let p = err_from_is_err_and c.from-residual.result c.from-residual.ensures.1 in
     let ts = c.args.tasks.now in
     let all = lines_left c.args.lines.now in
@@ -27,7 +27,7 @@ returns-in-err-edge c =
     let count : c.len-in-each.result ≡ length (vec_items c.each.edges) = omega (arith, c.len-in-each.ensures, c.each.edges.ok.0) in
     let first_count : c.len.result ≡ length (vec_items c.each.edges) = omega (arith, c.len.ensures, c.each.edges.ok.0) in
     subst (λ r. Meets r (edges_checks (known ts) 0 all) (λ v. vec_items v ≡ map (edge_of (known ts)) all)) (sym (p.1 ∙ ap Err p.2))
-    (c.each.invariant.0 ∙ unlinked ts es _ c.len-in-each.result c.next-line.result.now ls _ count (ap (λ m. 7 + (length ts + m)) first_count) c.next-line.ensures.is some c.in-err-edge.ensures)
+    (c.each.invariant.0 ∙ unlinked ts es _ c.len-in-each.result c.next-line.result.now ls _ count (ap (λ m. 7 + (length ts + m)) first_count) c.next-line.ensures.is some c.in_err-edge.ensures)
 
 pub each-preserved : goal.each-preserved
 each-preserved c =
@@ -37,13 +37,13 @@ each-preserved c =
     let some : 0 < length (lines_left c.each.lines) = omega (arith, eqb-false (length ls) 0 (sym c.each-test.ensures)) in
     let count : c.len-in-each.result ≡ length (vec_items c.each.edges) = omega (arith, c.len-in-each.ensures, c.each.edges.ok.0) in
     let first_count : c.len.result ≡ length (vec_items c.each.edges) = omega (arith, c.len.ensures, c.each.edges.ok.0) in
-    let s = linked ts es c.in-ok-edge.edge _ c.len-in-each.result c.next-line.result.now ls count (ap (λ m. 7 + (length ts + m)) first_count) c.next-line.ensures.is some c.in-ok-edge.ensures.0 c.in-ok-edge.ensures.1 in
-    let items = sym c.push-reserved.ensures.items in
+    let s = linked ts es c.in_ok-edge.edge _ c.len-in-each.result c.next-line.result.now ls count (ap (λ m. 7 + (length ts + m)) first_count) c.next-line.ensures.is some c.in_ok-edge.ensures.0 c.in_ok-edge.ensures.1 in
+    let items = sym c.push_reserved.ensures.items in
     let rest = sym c.next-line.ensures.left in (
       c.each.invariant.0 ∙ s.goes_on ∙ (λ i. first (edges_checks (known ts) (length (items i)) (rest i))),
       c.each.invariant.1 ∙ s.edges ∙ (λ i. items i ++ map (edge_of (known ts)) (rest i)),
-      omega (arith, ap length c.push-reserved.ensures.items ∙ length_push es c.in-ok-edge.edge, s.room),
-      omega (arith, c.push-reserved.ensures.capacity, c.each.invariant.3),
+      omega (arith, ap length c.push_reserved.ensures.items ∙ length_push es c.in_ok-edge.edge, s.room),
+      omega (arith, c.push_reserved.ensures.capacity, c.each.invariant.3),
     )
 
 pub returns : goal.returns

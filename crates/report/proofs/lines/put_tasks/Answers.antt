@@ -17,8 +17,8 @@ unreachable-requires c =
     let is = c.task-item.is ∙ ap (λ ts. get_or ts v t) c.deref-task-items.ensures.value in
     c.in-Err.ensures (told_is s v t c.requires h is)
 
-pub returns-in-err-put-figures : goal.returns-in-err-put-figures
-returns-in-err-put-figures c =
+pub returns-in_err-put_figures : goal.returns-in_err-put_figures
+returns-in_err-put_figures c =
     let s = c.args.sheet.now in
     let ts = vec_items s.tasks in
     let t = c.task-item.result in
@@ -26,10 +26,10 @@ returns-in-err-put-figures c =
     let r = c.from-residual.result in
     let h : c.loop-place.place < vec_len c.args.sheet.now.tasks = omega (arith, c.deref-task-items.ensures.len) in
     let is = c.task-item.is ∙ ap (λ ts. get_or ts v t) c.deref-task-items.ensures.value in
-    let text = line_is s v t c.in-Ok.figures _ c.requires h is c.as-bytes.ensures c.in-Ok.ensures in
+    let text = line_is s v t c.in-Ok.figures _ c.requires h is c.as_bytes.ensures c.in-Ok.ensures in
     same_text _ _ r (sym (joined_map figures_line entry ts))
     (halt (λ t. figures_line (entry t)) _ ts v t r (omega (arith, s.tasks.ok.0)) c.loop-place.invariant c.from-residual.ensures.1
-    (subst (λ u. Short c.loop-place.out (figures_line (entry u)) c.put-figures.new.out) is (subst (λ l. Short c.loop-place.out l c.put-figures.new.out) text c.in-err-put-figures.ensures)))
+    (subst (λ u. Short c.loop-place.out (figures_line (entry u)) c.put_figures.new.out) is (subst (λ l. Short c.loop-place.out l c.put_figures.new.out) text c.in_err-put_figures.ensures)))
 
 pub loop-place-preserved : goal.loop-place-preserved
 loop-place-preserved c =
@@ -39,9 +39,9 @@ loop-place-preserved c =
     let v = c.loop-place.place in
     let h : c.loop-place.place < vec_len c.args.sheet.now.tasks = omega (arith, c.deref-task-items.ensures.len) in
     let is = c.task-item.is ∙ ap (λ ts. get_or ts v t) c.deref-task-items.ensures.value in
-    let text = line_is s v t c.in-Ok.figures _ c.requires h is c.as-bytes.ensures c.in-Ok.ensures in
+    let text = line_is s v t c.in-Ok.figures _ c.requires h is c.as_bytes.ensures c.in-Ok.ensures in
     turn (λ t. figures_line (entry t)) ts v t (omega (arith, s.tasks.ok.0)) c.loop-place.invariant
-    (subst (λ u. Added c.loop-place.out (figures_line (entry u)) c.put-figures.new.out) is (subst (λ l. Added c.loop-place.out l c.put-figures.new.out) text c.in-ok-put-figures.ensures))
+    (subst (λ u. Added c.loop-place.out (figures_line (entry u)) c.put_figures.new.out) is (subst (λ l. Added c.loop-place.out l c.put_figures.new.out) text c.in_ok-put_figures.ensures))
 
 pub returns : goal.returns
 returns c =

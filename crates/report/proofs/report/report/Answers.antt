@@ -11,8 +11,8 @@ use Rattle.report.proofs.Told.{ready_is}
 use Rattle.report.proofs.report.report.Goals as goal
 use Rattle.report.proofs.report.report.Goals.{Joined-read, in-Ok, in-Err, at·returns-in-Ok-put, at·returns-in-Err-put}
 
-pub put-table-put-requires : goal.put-table-put-requires
-put-table-put-requires c = ready_is c.args.text.now c.in-Ok.sheet c.in-Ok.ensures.reads.says
+pub put_table-put-requires : goal.put_table-put-requires
+put_table-put-requires c = ready_is c.args.text.now c.in-Ok.sheet c.in-Ok.ensures.reads.says
 
 -- the report was put, or did not fit
 record Put (t : List ℕ) (v : Vec ℕ Global) (r : Result (Unit {0}) AllocError) (w : Vec ℕ Global) : Type 0 where
@@ -27,8 +27,8 @@ along v bs {r} {q} {w} {x} e f p = subst (λ y. Puts v bs r y) (sym f) (subst (�
 put_by : (c : Joined-read) → Put c.args.text.now c.args.out.now c.match-read.put c.match-read.out
 put_by c =
     elim c.match-read.branch [
-      | in-Ok w ↦ record { bytes = figures_table (page w.in-Ok.sheet); reports = table (page w.in-Ok.sheet) w.in-Ok.ensures.reads.says.written refl; puts = along _ _ w.put-is w.out-is w.put-table-put.ensures }
-      | in-Err w ↦ record { bytes = fault_line w.in-Err.fault ++ end; reports = refusal w.in-Err.fault w.in-Err.ensures.reads.says refl; puts = along _ _ w.put-is w.out-is w.put-fault-put.ensures }
+      | in-Ok w ↦ record { bytes = figures_table (page w.in-Ok.sheet); reports = table (page w.in-Ok.sheet) w.in-Ok.ensures.reads.says.written refl; puts = along _ _ w.put-is w.out-is w.put_table-put.ensures }
+      | in-Err w ↦ record { bytes = fault_line w.in-Err.fault ++ end; reports = refusal w.in-Err.fault w.in-Err.ensures.reads.says refl; puts = along _ _ w.put-is w.out-is w.put_fault-put.ensures }
     ]
 
 pub returns-in-Ok-put : goal.returns-in-Ok-put

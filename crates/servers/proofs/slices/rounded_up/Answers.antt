@@ -4,4 +4,4 @@ use Rattle.servers.specs.Rounding.{up_quotient}
 use Rattle.servers.proofs.slices.rounded_up.Goals as goal
 
 pub returns : goal.returns
-returns c = c.div-ceil.ensures ∙ up_quotient c.args.b c.requires c.args.a
+returns c = c.div_ceil.ensures ∙ up_quotient c.args.b c.requires c.args.a

@@ -17,4 +17,4 @@ pub returns : goal.returns
 returns c =
     let l = c.args.line.now in
     let ns = names (map entry c.args.tasks.now) in
-    meets_after c.ends-in.result (shape_checks c.args.edges c.args.at l) (ends_checks ns c.args.at 0 (fields l)) (λ e. e ≡ edge_of ns l) c.in-ok-shape-in.ensures.0 c.ends-in.ensures
+    meets_after c.ends_in.result (shape_checks c.args.edges c.args.at l) (ends_checks ns c.args.at 0 (fields l)) (λ e. e ≡ edge_of ns l) c.in_ok-shape_in.ensures.0 c.ends_in.ensures

@@ -9,35 +9,35 @@ use Rattle.sheets.specs.Checks.{task_checks, number_checks, index_of}
 use Rattle.sheet_lines.proofs.Threes.{said_1, said_2, said_3, three_0, three_1, three_2, three_3}
 use Rattle.sheet_lines.proofs.edge.ends_in.Goals as goal
 
-pub returns-in-err-from : goal.returns-in-err-from
-returns-in-err-from c =
+pub returns-in_err-from : goal.returns-in_err-from
+returns-in_err-from c =
     let p = err_from_is_err_and c.from-residual.result c.from-residual.ensures.1 in
     let new = c.new-fields.ensures in
     let ns = names (map entry c.args.tasks.now) in
     let near : c.new-fields.result.field ≤ 100 = omega (arith, new.field) in
     let s = three_0 (task_checks ns) (task_checks ns) (number_checks 0 255) c.new-fields.result c.args.at (fields c.args.line.now) new.left new.line new.field in
-    let h = three_1 (task_checks ns) (task_checks ns) (number_checks 0 255) _ _ _ _ near c.next-field-first.ensures c.in-err-from.ensures in
+    let h = three_1 (task_checks ns) (task_checks ns) (number_checks 0 255) _ _ _ _ near c.next_field-first.ensures c.in_err-from.ensures in
     rw (p.1, p.2) (s ∙ h)
 
-pub returns-in-err-to : goal.returns-in-err-to
-returns-in-err-to c =
-    let p = err_from_is_err_and c.from-residual-in-err-to.result c.from-residual-in-err-to.ensures.1 in
+pub returns-in_err-to : goal.returns-in_err-to
+returns-in_err-to c =
+    let p = err_from_is_err_and c.from-residual-in_err-to.result c.from-residual-in_err-to.ensures.1 in
     let new = c.new-fields.ensures in
     let ns = names (map entry c.args.tasks.now) in
     let near : c.new-fields.result.field ≤ 100 = omega (arith, new.field) in
     let s = three_0 (task_checks ns) (task_checks ns) (number_checks 0 255) c.new-fields.result c.args.at (fields c.args.line.now) new.left new.line new.field in
-    let h = three_2 (task_checks ns) (task_checks ns) (number_checks 0 255) _ _ _ _ _ _ near c.next-field-first.ensures c.next-field-second.ensures c.in-ok-from.ensures.0 c.in-err-to.ensures in
+    let h = three_2 (task_checks ns) (task_checks ns) (number_checks 0 255) _ _ _ _ _ _ near c.next_field-first.ensures c.next_field-second.ensures c.in_ok-from.ensures.0 c.in_err-to.ensures in
     rw (p.1, p.2) (s ∙ h)
 
-pub returns-in-err-tokens : goal.returns-in-err-tokens
-returns-in-err-tokens c =
-    let p = err_from_is_err_and c.from-residual-in-err-tokens.result c.from-residual-in-err-tokens.ensures.1 in
+pub returns-in_err-tokens : goal.returns-in_err-tokens
+returns-in_err-tokens c =
+    let p = err_from_is_err_and c.from-residual-in_err-tokens.result c.from-residual-in_err-tokens.ensures.1 in
     let new = c.new-fields.ensures in
     let ns = names (map entry c.args.tasks.now) in
     let near : c.new-fields.result.field ≤ 100 = omega (arith, new.field) in
     let s = three_0 (task_checks ns) (task_checks ns) (number_checks 0 255) c.new-fields.result c.args.at (fields c.args.line.now) new.left new.line new.field in
-    let h = three_3 (task_checks ns) (task_checks ns) (number_checks 0 255) _ _ _ _ _ _ _ near c.next-field-first.ensures c.next-field-second.ensures c.next-field-third.ensures c.in-ok-from.ensures.0 c.in-ok-to.ensures.0 in
-    rw (p.1, p.2) (s ∙ h ∙ c.in-err-tokens.ensures)
+    let h = three_3 (task_checks ns) (task_checks ns) (number_checks 0 255) _ _ _ _ _ _ _ near c.next_field-first.ensures c.next_field-second.ensures c.next_field-third.ensures c.in_ok-from.ensures.0 c.in_ok-to.ensures.0 in
+    rw (p.1, p.2) (s ∙ h ∙ c.in_err-tokens.ensures)
 
 pub returns : goal.returns
 returns c =
@@ -45,9 +45,9 @@ returns c =
     let ns = names (map entry c.args.tasks.now) in
     let near : c.new-fields.result.field ≤ 100 = omega (arith, new.field) in
     let s = three_0 (task_checks ns) (task_checks ns) (number_checks 0 255) c.new-fields.result c.args.at (fields c.args.line.now) new.left new.line new.field in
-    let h = three_3 (task_checks ns) (task_checks ns) (number_checks 0 255) _ _ _ _ _ _ _ near c.next-field-first.ensures c.next-field-second.ensures c.next-field-third.ensures c.in-ok-from.ensures.0 c.in-ok-to.ensures.0 in
-    let k = c.in-ok-tokens.ensures in
-    let from = said_1 (index_of ns) c.in-ok-from.from _ _ _ _ new.left c.next-field-first.ensures c.in-ok-from.ensures.1 in
-    let to = said_2 (index_of ns) c.in-ok-to.to _ _ _ _ _ _ new.left c.next-field-first.ensures c.next-field-second.ensures c.in-ok-to.ensures.1 in
-    let tokens = said_3 value c.from.result _ _ _ _ _ _ _ _ new.left c.next-field-first.ensures c.next-field-second.ensures c.next-field-third.ensures (c.from.ensures ∙ k.1) in
+    let h = three_3 (task_checks ns) (task_checks ns) (number_checks 0 255) _ _ _ _ _ _ _ near c.next_field-first.ensures c.next_field-second.ensures c.next_field-third.ensures c.in_ok-from.ensures.0 c.in_ok-to.ensures.0 in
+    let k = c.in_ok-tokens.ensures in
+    let from = said_1 (index_of ns) c.in_ok-from.from _ _ _ _ new.left c.next_field-first.ensures c.in_ok-from.ensures.1 in
+    let to = said_2 (index_of ns) c.in_ok-to.to _ _ _ _ _ _ new.left c.next_field-first.ensures c.next_field-second.ensures c.in_ok-to.ensures.1 in
+    let tokens = said_3 value c.from.result _ _ _ _ _ _ _ _ new.left c.next_field-first.ensures c.next_field-second.ensures c.next_field-third.ensures (c.from.ensures ∙ k.1) in
     (s ∙ h ∙ k.0, λ i. record { from = from i; to = to i; tokens = tokens i })

@@ -19,7 +19,7 @@ loop-i-preserved c =
     let n = c.args.name.now in
     let t = c.index-tasks-i.result in
     let inv = c.loop-i.invariant in
-    let s : false ≡ bytes_eq (name_bytes t.name) n = c.if-same.ensures ∙ ap (λ x. bytes_eq x n) c.as-bytes.ensures in
+    let s : false ≡ bytes_eq (name_bytes t.name) n = c.if-same.ensures ∙ ap (λ x. bytes_eq x n) c.as_bytes.ensures in
     let k = index_on c.args.tasks.now n c.loop-i.i t false (omega arith) c.index-tasks-i.is s in
     (inv.0 ∙ taken_on c.args.tasks.now n c.loop-i.i t false (omega arith) c.index-tasks-i.is s, omega (arith, inv.1, k))
 
@@ -28,6 +28,6 @@ returns-then-same c =
     let n = c.args.name.now in
     let t = c.index-tasks-i.result in
     let inv = c.loop-i.invariant in
-    let s : true ≡ bytes_eq (name_bytes t.name) n = c.if-same.ensures ∙ ap (λ x. bytes_eq x n) c.as-bytes.ensures in
+    let s : true ≡ bytes_eq (name_bytes t.name) n = c.if-same.ensures ∙ ap (λ x. bytes_eq x n) c.as_bytes.ensures in
     let k = index_on c.args.tasks.now n c.loop-i.i t true (omega arith) c.index-tasks-i.is s in
     (inv.0 ∙ taken_on c.args.tasks.now n c.loop-i.i t true (omega arith) c.index-tasks-i.is s, omega (arith, inv.1, k))

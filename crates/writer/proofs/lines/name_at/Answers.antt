@@ -23,7 +23,7 @@ past ts i h = sym (get_or_past (names (map entry ts)) i [] (rw (length-map, leng
 pub returns-in-Some : goal.returns-in-Some
 returns-in-Some c =
     let f = c.in-Some.ensures.lookup in
-    c.as-bytes.ensures ∙ within c.args.tasks.now c.args.place c.in-Some.task.now f.3.0 f.1
+    c.as_bytes.ensures ∙ within c.args.tasks.now c.args.place c.in-Some.task.now f.3.0 f.1
 
 pub returns-in-None : goal.returns-in-None
 returns-in-None c = past c.args.tasks.now c.args.place c.in-None.ensures.lookup.3

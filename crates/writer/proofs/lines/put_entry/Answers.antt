@@ -4,22 +4,22 @@ use Rattle.writer.proofs.Written.{entry_text}
 use Rattle.sheets.specs.Reads.{entry}
 use Rattle.writer.proofs.lines.put_entry.Goals as goal
 
-pub returns-in-err-put-front : goal.returns-in-err-put-front
-returns-in-err-put-front c =
+pub returns-in_err-put_front : goal.returns-in_err-put_front
+returns-in_err-put_front c =
     let r = c.from-residual.result in
-    same_text _ _ r (entry_text _ (entry c.args.task.now) c.as-bytes.ensures) (stop _ _ r c.from-residual.ensures.1 c.in-err-put-front.ensures)
+    same_text _ _ r (entry_text _ (entry c.args.task.now) c.as_bytes.ensures) (stop _ _ r c.from-residual.ensures.1 c.in_err-put_front.ensures)
 
-pub returns-in-err-put-settings : goal.returns-in-err-put-settings
-returns-in-err-put-settings c =
-    let r = c.from-residual-in-err-put-settings.result in
-    same_text _ _ r (entry_text _ (entry c.args.task.now) c.as-bytes.ensures) (next _ _ r c.in-ok-put-front.ensures (stop _ _ r c.from-residual-in-err-put-settings.ensures.1 c.in-err-put-settings.ensures))
+pub returns-in_err-put_settings : goal.returns-in_err-put_settings
+returns-in_err-put_settings c =
+    let r = c.from-residual-in_err-put_settings.result in
+    same_text _ _ r (entry_text _ (entry c.args.task.now) c.as_bytes.ensures) (next _ _ r c.in_ok-put_front.ensures (stop _ _ r c.from-residual-in_err-put_settings.ensures.1 c.in_err-put_settings.ensures))
 
-pub returns-in-err-put-settings-2 : goal.returns-in-err-put-settings-2
-returns-in-err-put-settings-2 c =
-    let r = c.from-residual-in-err-put-settings-2.result in
-    same_text _ _ r (entry_text _ (entry c.args.task.now) c.as-bytes.ensures) (next _ _ r c.in-ok-put-front.ensures (next _ _ r c.in-ok-put-settings.ensures (stop _ _ r c.from-residual-in-err-put-settings-2.ensures.1 c.in-err-put-settings-2.ensures)))
+pub returns-in_err-put_settings-2 : goal.returns-in_err-put_settings-2
+returns-in_err-put_settings-2 c =
+    let r = c.from-residual-in_err-put_settings-2.result in
+    same_text _ _ r (entry_text _ (entry c.args.task.now) c.as_bytes.ensures) (next _ _ r c.in_ok-put_front.ensures (next _ _ r c.in_ok-put_settings.ensures (stop _ _ r c.from-residual-in_err-put_settings-2.ensures.1 c.in_err-put_settings-2.ensures)))
 
 pub returns : goal.returns
 returns c =
-    let r = c.put-inlet.result in
-    same_text _ _ r (entry_text _ (entry c.args.task.now) c.as-bytes.ensures) (next _ _ r c.in-ok-put-front.ensures (next _ _ r c.in-ok-put-settings.ensures (next _ _ r c.in-ok-put-settings-2.ensures c.put-inlet.ensures)))
+    let r = c.put_inlet.result in
+    same_text _ _ r (entry_text _ (entry c.args.task.now) c.as_bytes.ensures) (next _ _ r c.in_ok-put_front.ensures (next _ _ r c.in_ok-put_settings.ensures (next _ _ r c.in_ok-put_settings-2.ensures c.put_inlet.ensures)))

@@ -2,12 +2,12 @@
 use Rattle.texts.proofs.Chains.{next, stop}
 use Rattle.writer.proofs.tables.put_goal.Goals as goal
 
-pub returns-in-err-put-number : goal.returns-in-err-put-number
-returns-in-err-put-number c =
-    let r = c.from-residual-in-err-put-number.result in
-    next _ _ r c.in-ok-put.ensures (stop _ _ r c.from-residual-in-err-put-number.ensures.1 c.in-err-put-number.ensures)
+pub returns-in_err-put_number : goal.returns-in_err-put_number
+returns-in_err-put_number c =
+    let r = c.from-residual-in_err-put_number.result in
+    next _ _ r c.in_ok-put.ensures (stop _ _ r c.from-residual-in_err-put_number.ensures.1 c.in_err-put_number.ensures)
 
 pub returns : goal.returns
 returns c =
     let r = c.put-2.result in
-    next _ _ r c.in-ok-put.ensures (next _ _ r c.in-ok-put-number.ensures c.put-2.ensures)
+    next _ _ r c.in_ok-put.ensures (next _ _ r c.in_ok-put_number.ensures c.put-2.ensures)

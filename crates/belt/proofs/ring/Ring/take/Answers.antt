@@ -16,11 +16,11 @@ returns g c =
     let hl : h < length s = omega arith in
     let t = take_step s h b.len hl (c.requires.2, c.requires.3) (omega arith) in
     let slots_are : set s h c.take-item.new.self ≡ set s h None = ap (set s h) c.take-item.ensures.after in
-    let head_is : c.place-of-self.result ≡ place h 1 (length (set s h None)) = c.place-of-self.ensures.value ∙ ap (λ l. place h 1 (length l)) slots_are in
-    let order_is : turned (set s h c.take-item.new.self) c.place-of-self.result ≡ turned (set s h None) (place h 1 (length (set s h None))) = (λ i. turned (slots_are i) (head_is i)) in
+    let head_is : c.place_of-self.result ≡ place h 1 (length (set s h None)) = c.place_of-self.ensures.value ∙ ap (λ l. place h 1 (length l)) slots_are in
+    let order_is : turned (set s h c.take-item.new.self) c.place_of-self.result ≡ turned (set s h None) (place h 1 (length (set s h None))) = (λ i. turned (slots_are i) (head_is i)) in
     let item_is : c.take-item.result ≡ Some t.item = c.take-item.ensures.value ∙ get_or_default s h _ None hl ∙ t.was in
     let long = length-set s h c.take-item.new.self in
     record {
-      sound = (omega (arith, c.place-of-self.ensures.within), omega arith, subst (λ r. Full r (b.len - 1)) (sym order_is) t.rest.0, subst (λ r. Free r (b.len - 1)) (sym order_is) t.rest.1);
+      sound = (omega (arith, c.place_of-self.ensures.within), omega arith, subst (λ r. Full r (b.len - 1)) (sym order_is) t.rest.0, subst (λ r. Free r (b.len - 1)) (sym order_is) t.rest.1);
       took = rw item_is (t.front ∙ ap (λ r. t.item ∷ held r) (sym order_is), long);
     }

@@ -4,9 +4,9 @@ use Rattle.std.proofs.lemmas.Result.{err_from_is_err_and}
 use Rattle.servers.specs.Slices.{pace_of}
 use Rattle.layers.proofs.inner_server.InnerServer.pace.Goals as goal
 
-pub returns-in-err-needed : goal.returns-in-err-needed
-returns-in-err-needed g c =
+pub returns-in_err-needed : goal.returns-in_err-needed
+returns-in_err-needed g c =
     let f = c.args.self.now.slice in
-    let far = c.in-err-needed.ensures in
+    let far = c.in_err-needed.ensures in
     let p = err_from_is_err_and c.from-residual.result c.from-residual.ensures.1 in
     rw (p.1, p.2) (far.0, omega (arith, far.1, (g.met.S.Server.keeps c.args.self.now.below).pace_least (pace_of f.period f.slice c.args.n)))

@@ -5,9 +5,9 @@ use Rattle.servers.specs.Slices.{worst_of}
 use Rattle.layers.proofs.WithinLaws.{worst_least}
 use Rattle.layers.proofs.inner_server.InnerServer.worst.Goals as goal
 
-pub returns-in-err-needed : goal.returns-in-err-needed
-returns-in-err-needed g c =
+pub returns-in_err-needed : goal.returns-in_err-needed
+returns-in_err-needed g c =
     let f = c.args.self.now.slice in
-    let far = c.in-err-needed.ensures in
+    let far = c.in_err-needed.ensures in
     let p = err_from_is_err_and c.from-residual.result c.from-residual.ensures.1 in
     rw (p.1, p.2) (far.0, omega (arith, far.1, worst_least _ (g.met.S.Server.keeps c.args.self.now.below) (worst_of f.period f.slice c.args.n)))

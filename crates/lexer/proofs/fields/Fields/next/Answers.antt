@@ -38,8 +38,8 @@ returns c =
     let at = c.args.self.now.at in
     let e = take_rest t at in
     let back = sym e in
-    let n = c.run-len-n.result in
-    let n_is : n ≡ run (drop at t) = c.run-len-n.ensures.value ∙ ap run e in
+    let n = c.run_len-n.result in
+    let n_is : n ≡ run (drop at t) = c.run_len-n.ensures.value ∙ ap run e in
     let some : 0 < length (drop at t) = omega (arith, ap length e) in
     let same : n ≡ n - 0 = omega arith in
     let to = at + c.if-n-rest.step in
@@ -48,12 +48,12 @@ returns c =
       | else-n-rest w ↦ let long : length t ≤ at + c.if-n-rest.step = omega (arith, w.step-is, ap length e, length-drop at t) in drop_all _ t long ∙ sym (drop_all _ t (omega (arith, w.step-is)))
     ] in
     let took = past t at n to n_is way some in
-    took_by _ _ _ _ _ c.shape-of.ensures
+    took_by _ _ _ _ _ c.shape_of.ensures
     (record {
       left = took ∙ (λ i. take (same i) (back i) ∷ fields (drop to t));
-      shape = c.shape-of.ensures;
+      shape = c.shape_of.ensures;
       line_is = refl;
       token_line = refl;
-      field_is = c.saturating-add-self.ensures;
+      field_is = c.saturating_add-self.ensures;
       token_field = refl;
     })
