@@ -17,7 +17,7 @@ pub returns-then-marked-edge : goal.returns-then-marked-edge
 returns-then-marked-edge c =
     let es = c.args.edges.now in
     let v : ℕ = c.search.task in
-    let k : ℕ = c.loop-edge.edge_index in
+    let k : ℕ = c.loop-edge.edge-index in
     record {
       there = c.search-test.true;
       on = ring_by es v (edge_at es k).from k c.reach_from-marked.result c.reach_from-marked.ensures c.if-marked-edge.true

@@ -10,11 +10,11 @@ loop-edge-init c = before (edge_line (names (map entry c.args.tasks.now))) c.arg
 
 pub returns-in_err-put_edge : goal.returns-in_err-put_edge
 returns-in_err-put_edge c =
-    halt (edge_line (names (map entry c.args.tasks.now))) _ c.args.edges.now c.loop-edge.edge_index _ c.from-residual.result (omega arith) c.loop-edge.invariant c.from-residual.ensures.1 c.in_err-put_edge.ensures
+    halt (edge_line (names (map entry c.args.tasks.now))) _ c.args.edges.now c.loop-edge.edge-index _ c.from-residual.result (omega arith) c.loop-edge.invariant c.from-residual.ensures.1 c.in_err-put_edge.ensures
 
 pub loop-edge-preserved : goal.loop-edge-preserved
 loop-edge-preserved c =
-    turn (edge_line (names (map entry c.args.tasks.now))) c.args.edges.now c.loop-edge.edge_index _ (omega arith) c.loop-edge.invariant c.in_ok-put_edge.ensures
+    turn (edge_line (names (map entry c.args.tasks.now))) c.args.edges.now c.loop-edge.edge-index _ (omega arith) c.loop-edge.invariant c.in_ok-put_edge.ensures
 
 pub returns : goal.returns
-returns c = after (edge_line (names (map entry c.args.tasks.now))) c.args.edges.now c.loop-edge.edge_index c.loop-edge-test.false c.loop-edge.invariant
+returns c = after (edge_line (names (map entry c.args.tasks.now))) c.args.edges.now c.loop-edge.edge-index c.loop-edge-test.false c.loop-edge.invariant
