@@ -8,7 +8,7 @@ import re
 import sys
 
 TOKEN = re.compile(r"(?<![\w'◌-])[A-Za-z][\w']*(?:-[\w']+)+(?![\w'◌]|-\w)")
-WORDS = {"overflow_add", "overflow_sub", "overflow_mul", "overflow_cast", "overflow_shl", "overflow_shr", "overflow_step", "nonzero_div", "nonzero_rem", "slice_bounds", "offset_bounds", "invariant_of", "in_ok", "in_err", "in_default", "yielded_by"}
+WORDS = {"overflow_add", "overflow_sub", "overflow_mul", "overflow_cast", "overflow_shl", "overflow_shr", "overflow_step", "nonzero_div", "nonzero_rem", "slice_bounds", "offset_bounds", "invariant_of", "in_ok", "in_err", "in_default", "yielded_by", "from_residual"}
 
 
 def walk(top, suffix):

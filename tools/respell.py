@@ -96,7 +96,7 @@ def main():
         for l in old.split("\n"):
             mark = "--" if p.endswith(".antt") else "//"
             is_comment = l.lstrip().startswith(mark)
-            new = outside_strings(l, names - ENGLISH if is_comment else names, p.endswith(".antt"))
+            new = outside_strings(l, names - ENGLISH if is_comment else names, os.path.basename(p) in ("Answers.antt", "Invariants.antt"))
             if is_comment and new != l:
                 print("comment:", p, new.strip()[:160])
             lines.append(new)

@@ -28,10 +28,10 @@ bound_rises n α service v laws i j s t l (finish a f ds rs m) d =
 
 -- the pace of m times as much is at most m times the pace
 pub paces : (s : Service) → Laws s → (t m : ℕ) → s.pace (m * t) ≤ m * s.pace t
-paces s l t zero = omega (arith, ap s.pace (zero-mul t), l.pace-none, zero-mul (s.pace t))
+paces s l t zero = omega (arith, ap s.pace (zero-mul t), l.pace_none, zero-mul (s.pace t))
 paces s l t (suc m) =
     let e : suc m * t ≡ m * t + t = omega arith in
-    omega (arith, ap s.pace e, l.pace-adds (m * t) t, paces s l t m)
+    omega (arith, ap s.pace e, l.pace_adds (m * t) t, paces s l t m)
 
 module _ (n : Net) (sound : Sound n) (α : Arrivals) (service : ℕ → Service) (laws : (v : ℕ) → v < n.tasks → Laws (service v)) where
   dearer : (v m : ℕ) → v < n.tasks → by_worst n service v m ≤ by_lead_and_pace n service v m

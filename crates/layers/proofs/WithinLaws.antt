@@ -52,7 +52,7 @@ within_ticks b b' s s' g bl sl t u = record {
 }
 
 pub worst_least : (p : Service) → Laws p → (n : ℕ) → n ≤ p.worst n
-worst_least p l n = omega (arith, l.wait-least n, l.wait-most n)
+worst_least p l n = omega (arith, l.wait_least n, l.wait_most n)
 
 -- A slice layered over a service, on a tick that is granted below or not.
 pub layered_ticks : (b b' : Service) (x y : Fixed) (low c g : Bool) → Laws b' → Ticks b low b' → Layered low x c g y → Ticks (within b (fixed_service x)) g (within b' (fixed_service y))

@@ -86,12 +86,12 @@ module _ {R : Type 0} (places : R → ℕ) (service : R → ℕ → Service) (st
   waits a v z h same =
       let l = shows.keeps a v h in
       record {
-        none = l.wait-none;
-        above = l.wait-least;
-        rises = l.wait-rises;
-        within = λ n. omega (arith, l.wait-most n, same n);
-        worst_none = omega (arith, l.worst-none, same 0);
-        worst_rises = λ m n k. omega (arith, l.worst-rises m n k, same m, same n);
+        none = l.wait_none;
+        above = l.wait_least;
+        rises = l.wait_rises;
+        within = λ n. omega (arith, l.wait_most n, same n);
+        worst_none = omega (arith, l.worst_none, same 0);
+        worst_rises = λ m n k. omega (arith, l.worst_rises m n k, same m, same n);
       }
 
   sooner : (p q : Service) (g : Bool) → Sooner g p.wait q.wait → Ticked g p.wait q.wait

@@ -12,10 +12,10 @@ use Rattle.runs.proofs.Forget.{Shows, on_time, run_stays}
 
 -- n firings' pace is at most n times the pace of one
 paces : (p : Service) → Laws p → (t n : ℕ) → p.pace (n * t) ≤ n * p.pace t
-paces p l t zero = let e : 0 * t ≡ 0 = omega arith in omega (arith, ap p.pace e, l.pace-none)
+paces p l t zero = let e : 0 * t ≡ 0 = omega arith in omega (arith, ap p.pace e, l.pace_none)
 paces p l t (suc n) =
     let e : suc n * t ≡ n * t + t = omega arith in
-    omega (arith, ap p.pace e, l.pace-adds (n * t) t, paces p l t n)
+    omega (arith, ap p.pace e, l.pace_adds (n * t) t, paces p l t n)
 
 -- what a link is worth: parts * pace ≤ cycle
 pub link_ring : (g : Net) (v : ℕ) → v < g.tasks → Ring g (link v ∷ [])
@@ -29,7 +29,7 @@ link_paced g p cycle parts figures v h =
 -- parts times the worst wait of n + 1 firings
 worst_paced : (p : Service) → Laws p → (cycle parts t n : ℕ) → parts * p.pace t ≤ cycle → parts * p.worst ((n + 1) * t) ≤ parts * (p.lead + p.pace t) + n * cycle
 worst_paced p l cycle parts t n h =
-    let a : p.worst ((n + 1) * t) ≤ p.lead + (n + 1) * p.pace t = omega (arith, l.worst-most ((n + 1) * t), paces p l t (n + 1)) in
+    let a : p.worst ((n + 1) * t) ≤ p.lead + (n + 1) * p.pace t = omega (arith, l.worst_most ((n + 1) * t), paces p l t (n + 1)) in
     let b : parts * p.worst ((n + 1) * t) ≤ parts * (p.lead + (n + 1) * p.pace t) = mul-le-mul_left parts a in
     let c : (p.lead + (n + 1) * p.pace t) ≡ (p.lead + p.pace t) + n * p.pace t = omega arith in
     let d : parts * (p.lead + (n + 1) * p.pace t) ≡ parts * (p.lead + p.pace t) + parts * (n * p.pace t) = ap (λ k. parts * k) c ∙ mul-add parts (p.lead + p.pace t) (n * p.pace t) in

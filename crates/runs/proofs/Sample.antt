@@ -85,8 +85,8 @@ looks_after s y p e l = record {
   to_go_1 = cc;
   fired_0 = cc;
   fired_1 = cc;
-  need_0 = l.need-0;
-  need_1 = l.need-1;
+  need_0 = l.need_0;
+  need_1 = l.need_1;
   records = cc;
 }
 

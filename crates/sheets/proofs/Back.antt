@@ -153,7 +153,7 @@ lines_clear p r size some room =
     let size_is : first (bad (eqb size 0 || leb 8193 size) 1 0 0 ∷ []) ≡ None = all_none (bad (eqb size 0 || leb 8193 size) 1 0 0 ∷ []) (or_from (eqb size 0) (leb 8193 size) (ne_eqb size 0 (λ z. omega arith)) (lt-leb 8193 size (omega arith)), tt) in
     let tasks = entries_clear [] p.tasks rest r.fine (apart [] ns o.distinct) (omega (arith, n, o.counts.few)) (omega (arith, n, o.counts.some)) in
     let head : first F ≡ None = ap (λ x. first (exact_checks (heading table.Edges) (6 + length (names_in ls)) (get_or x 0 []))) c.table_is in
-    let arcs : first G ≡ None = (λ i. first (edges_checks (c.names-are i) 0 (drop 1 (c.table_is i)))) ∙ edges_clear ns 0 p.edges r.named r.joins (omega (arith, o.counts.sparse)) in
+    let arcs : first G ≡ None = (λ i. first (edges_checks (c.names_are i) 0 (drop 1 (c.table_is i)))) ∙ edges_clear ns 0 p.edges r.named r.joins (omega (arith, o.counts.sparse)) in
     none_both (bad (eqb size 0 || leb 8193 size) 1 0 0 ∷ []) (A ++ (B ++ (C ++ (D ++ (E ++ (F ++ G)))))) size_is
     (none_both A (B ++ (C ++ (D ++ (E ++ (F ++ G))))) refl
     (none_both B (C ++ (D ++ (E ++ (F ++ G)))) (goal_clear p.goal o.ranges.least o.ranges.most)
@@ -169,7 +169,7 @@ page_same p r =
     let rest = heading table.Edges ∷ map (edge_line ns) p.edges in
     let goal = value_at p.goal (field 0 (line_of (goal_cells p.goal))) (ap (λ x. get_or x 0 []) (goal_back p.goal r.in_order.ranges.most).cut) (omega (arith, r.in_order.ranges.most)) in
     let tasks = ap (map entry_of) (up_to p.tasks rest r.fine) ∙ entries_same p.tasks r.fine in
-    let edges = (λ i. map (edge_of (c.names-are i)) (drop 1 (c.table_is i))) ∙ edges_same ns p.edges r.named r.in_order.distinct r.joins in
+    let edges = (λ i. map (edge_of (c.names_are i)) (drop 1 (c.table_is i))) ∙ edges_same ns p.edges r.named r.in_order.distinct r.joins in
     λ i. record { goal = goal i; tasks = tasks i; edges = edges i }
 
 pub back_is : (p : Page) → InOrder p → (first (checks (write p)) ≡ None) × (meaning (write p) ≡ p)

@@ -12,7 +12,7 @@ use Rattle.serving.proofs.serve.Goals as goal
 pub returns-in_err-_worst : goal.returns-in_err-_worst
 returns-in_err-_worst g c =
     let far = c.in_err-_worst.ensures in
-    let p = err_from_is_err_and c.from-residual.result c.from-residual.ensures.1 in
+    let p = err_from_is_err_and c.from_residual.result c.from_residual.ensures.1 in
     record { served = rw (p.1, p.2) (far.0, far.1, refl, refl); in_time = in_time (model g) }
 
 pub wait_for_grant-requires : goal.wait_for_grant-requires

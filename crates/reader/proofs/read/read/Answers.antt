@@ -39,7 +39,7 @@ unique : {A : Type 0} → A → record { reads : A; one : OneMeaning }
 unique a = record { reads = a; one = one_meaning }
 
 pub returns-in_err-goal : goal.returns-in_err-goal
-returns-in_err-goal c = unique (refused_is c.args.text.now c.from-residual.result _ c.from-residual.ensures.1 (in_line (first_is (checks c.args.text.now) _ c.in_err-goal.ensures)))
+returns-in_err-goal c = unique (refused_is c.args.text.now c.from_residual.result _ c.from_residual.ensures.1 (in_line (first_is (checks c.args.text.now) _ c.in_err-goal.ensures)))
 
 pub returns-in_err-graph : goal.returns-in_err-graph
 returns-in_err-graph c =
@@ -47,7 +47,7 @@ returns-in_err-graph c =
     let x = c.in_ok-goal.field-0 in
     let read = c.in_ok-goal.ensures in
     let fine = taken_is t read.0 in
-    let r = c.from-residual-in_err-graph in
+    let r = c.from_residual-in_err-graph in
     unique
     (refused_is t r.result _ r.ensures.1
     (graph_refused t (meaning t) _ x.goal (vec_items x.tasks.parts) (vec_items x.edges) fine.0 fine.1 read.1.goal (parts_are (meaning t) x read.1) read.1.edges c.in_err-graph.ensures))
@@ -61,7 +61,7 @@ returns-in_err-check_rack c =
     let fine = taken_is t read.0 in
     let made = c.in_ok-graph.ensures in
     let g = c.in_ok-graph.graph in
-    let r = c.from-residual-in_err-check_rack in
+    let r = c.from_residual-in_err-check_rack in
     let say = read.1 in
     let free = ring_free p x say made.0.no_ring in
     unique

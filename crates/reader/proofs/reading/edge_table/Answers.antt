@@ -15,7 +15,7 @@ pub returns-in_err-heading_in : goal.returns-in_err-heading_in
 returns-in_err-heading_in c =
     let ls = lines_left c.args.lines.now in
     let ts = c.args.tasks.now in
-    let r = c.from-residual in
+    let r = c.from_residual in
     let line = c.next.ensures.is in
     let at = length_known ts in
     handed_on r.result _ (edge_table (known ts) ls) _ r.ensures.1

@@ -19,7 +19,7 @@ returns-in_err-goal c =
     let C = exact_checks end 3 (get_or ls 2 []) in
     let head = ap (λ l. first (exact_checks (heading table.Goal) 1 l)) (sym c.next.ensures.is) ∙ c.in_ok-heading_in.ensures.0 in
     let line = c.next-2.ensures.is ∙ nth ls (lines_left c.next.new.self) 1 c.next.ensures.left in
-    let r = c.from-residual-in_err-goal in
+    let r = c.from_residual-in_err-goal in
     record {
       says = handed_on r.result _ (goal_table ls) _ r.ensures.1 (first_after A (B ++ C) head ∙ first_within B C _ (ap (λ l. first (goal_checks l)) (sym line) ∙ c.in_err-goal.ensures));
       left = no_value r.result _ r.ensures.1;
@@ -35,7 +35,7 @@ returns-in_err-gap_in c =
     let line = c.next-2.ensures.is ∙ nth ls (lines_left c.next.new.self) 1 c.next.ensures.left in
     let goal = ap (λ l. first (goal_checks l)) (sym line) ∙ c.in_ok-goal.ensures.0 in
     let gap = c.next-3.ensures.is ∙ nth ls (lines_left c.next-2.new.self) 2 (rest ls (lines_left c.next.new.self) _ 1 c.next.ensures.left c.next-2.ensures.left) in
-    let r = c.from-residual-in_err-gap_in in
+    let r = c.from_residual-in_err-gap_in in
     record {
       says = handed_on r.result _ (goal_table ls) _ r.ensures.1 (first_after A (B ++ C) head ∙ first_after B C goal ∙ ap (λ l. first (exact_checks end 3 l)) (sym gap) ∙ c.in_err-gap_in.ensures);
       left = no_value r.result _ r.ensures.1;

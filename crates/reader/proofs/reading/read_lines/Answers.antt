@@ -20,7 +20,7 @@ pub returns-in_err-goal : goal.returns-in_err-goal
 returns-in_err-goal c =
     let t = c.args.text.now in
     let sized : Sized c.args.text.now = grind (arith, nat_tests) in
-    let r = c.from-residual in
+    let r = c.from_residual in
     handed_on r.result _ (checks t) _ r.ensures.1
     (by_tables t sized
     ∙ first_within (tables.goal_table (lines t)) (tables.task_table (drop 3 (lines t)) ++ tables.edge_table (names_in (lines t)) (edge_table (lines t))) _
@@ -30,7 +30,7 @@ pub returns-in_err-tasks : goal.returns-in_err-tasks
 returns-in_err-tasks c =
     let t = c.args.text.now in
     let sized : Sized c.args.text.now = grind (arith, nat_tests) in
-    let r = c.from-residual-in_err-tasks in
+    let r = c.from_residual-in_err-tasks in
     let from = c.in_ok-goal.ensures.left refl ∙ ap (drop 3) c.new-lines.ensures in
     handed_on r.result _ (checks t) _ r.ensures.1
     (past_goal t (lines_left c.new-lines.result) sized c.new-lines.ensures c.in_ok-goal.ensures.says.0
@@ -67,7 +67,7 @@ pub returns-in_err-edges : goal.returns-in_err-edges
 returns-in_err-edges c =
     let t = c.args.text.now in
     let p = past (at·returns-in_err-edges c).In-ok-tasks in
-    let r = c.from-residual-in_err-edges in
+    let r = c.from_residual-in_err-edges in
     handed_on r.result _ (checks t) _ r.ensures.1
     (p.go_on ∙ ap (λ ts. first (tables.edge_table (known ts) (lines_left c.task_table.new.lines))) (sym c.deref.ensures.value) ∙ c.in_err-edges.ensures)
 

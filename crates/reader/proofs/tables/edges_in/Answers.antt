@@ -18,7 +18,7 @@ each-init c =
 
 pub returns-in_err-edge : goal.returns-in_err-edge
 returns-in_err-edge c =
-    let p = err_from_is_err_and c.from-residual.result c.from-residual.ensures.1 in
+    let p = err_from_is_err_and c.from_residual.result c.from_residual.ensures.1 in
     let ts = c.args.tasks.now in
     let all = lines_left c.args.lines.now in
     let es = vec_items c.each.edges in

@@ -64,7 +64,7 @@ returns-then-is_empty_line c =
 
 pub returns-in_err-task : goal.returns-in_err-task
 returns-in_err-task c =
-    let p = err_from_is_err_and c.from-residual.result c.from-residual.ensures.1 in
+    let p = err_from_is_err_and c.from_residual.result c.from_residual.ensures.1 in
     let is = p.1 ∙ ap Err p.2 in
     let ts = vec_items c.each.tasks in
     let ls = lines_left c.each.lines in

@@ -23,12 +23,12 @@ returns-in_err-put_figures c =
     let ts = vec_items s.tasks in
     let t = c.task-item.result in
     let v = c.loop-place.place in
-    let r = c.from-residual.result in
+    let r = c.from_residual.result in
     let h : c.loop-place.place < vec_len c.args.sheet.now.tasks = omega (arith, c.deref-task-items.ensures.len) in
     let is = c.task-item.is ∙ ap (λ ts. get_or ts v t) c.deref-task-items.ensures.value in
     let text = line_is s v t c.in-Ok.figures _ c.requires h is c.as_bytes.ensures c.in-Ok.ensures in
     same_text _ _ r (sym (joined_map figures_line entry ts))
-    (halt (λ t. figures_line (entry t)) _ ts v t r (omega (arith, s.tasks.ok.0)) c.loop-place.invariant c.from-residual.ensures.1
+    (halt (λ t. figures_line (entry t)) _ ts v t r (omega (arith, s.tasks.ok.0)) c.loop-place.invariant c.from_residual.ensures.1
     (subst (λ u. Short c.loop-place.out (figures_line (entry u)) c.put_figures.new.out) is (subst (λ l. Short c.loop-place.out l c.put_figures.new.out) text c.in_err-put_figures.ensures)))
 
 pub loop-place-preserved : goal.loop-place-preserved

@@ -11,7 +11,7 @@ use Rattle.sheet_lines.proofs.edge.ends_in.Goals as goal
 
 pub returns-in_err-from : goal.returns-in_err-from
 returns-in_err-from c =
-    let p = err_from_is_err_and c.from-residual.result c.from-residual.ensures.1 in
+    let p = err_from_is_err_and c.from_residual.result c.from_residual.ensures.1 in
     let new = c.new-fields.ensures in
     let ns = names (map entry c.args.tasks.now) in
     let near : c.new-fields.result.field ≤ 100 = omega (arith, new.field) in
@@ -21,7 +21,7 @@ returns-in_err-from c =
 
 pub returns-in_err-to : goal.returns-in_err-to
 returns-in_err-to c =
-    let p = err_from_is_err_and c.from-residual-in_err-to.result c.from-residual-in_err-to.ensures.1 in
+    let p = err_from_is_err_and c.from_residual-in_err-to.result c.from_residual-in_err-to.ensures.1 in
     let new = c.new-fields.ensures in
     let ns = names (map entry c.args.tasks.now) in
     let near : c.new-fields.result.field ≤ 100 = omega (arith, new.field) in
@@ -31,7 +31,7 @@ returns-in_err-to c =
 
 pub returns-in_err-tokens : goal.returns-in_err-tokens
 returns-in_err-tokens c =
-    let p = err_from_is_err_and c.from-residual-in_err-tokens.result c.from-residual-in_err-tokens.ensures.1 in
+    let p = err_from_is_err_and c.from_residual-in_err-tokens.result c.from_residual-in_err-tokens.ensures.1 in
     let new = c.new-fields.ensures in
     let ns = names (map entry c.args.tasks.now) in
     let near : c.new-fields.result.field ≤ 100 = omega (arith, new.field) in

@@ -10,7 +10,7 @@ use Rattle.sheet_lines.proofs.entry.cells_in.Goals as goal
 
 pub returns-in_err-named : goal.returns-in_err-named
 returns-in_err-named c =
-    let p = err_from_is_err_and c.from-residual.result c.from-residual.ensures.1 in
+    let p = err_from_is_err_and c.from_residual.result c.from_residual.ensures.1 in
     let at = c.args.at in
     let fs = fields c.args.line.now in
     let new = c.new-fields.ensures in
@@ -19,7 +19,7 @@ returns-in_err-named c =
 
 pub returns-in_err-slice : goal.returns-in_err-slice
 returns-in_err-slice c =
-    let p = err_from_is_err_and c.from-residual-in_err-slice.result c.from-residual-in_err-slice.ensures.1 in
+    let p = err_from_is_err_and c.from_residual-in_err-slice.result c.from_residual-in_err-slice.ensures.1 in
     let at = c.args.at in
     let fs = fields c.args.line.now in
     let new = c.new-fields.ensures in
@@ -30,7 +30,7 @@ returns-in_err-slice c =
 
 pub returns-in_err-layer : goal.returns-in_err-layer
 returns-in_err-layer c =
-    let p = err_from_is_err_and c.from-residual-in_err-layer.result c.from-residual-in_err-layer.ensures.1 in
+    let p = err_from_is_err_and c.from_residual-in_err-layer.result c.from_residual-in_err-layer.ensures.1 in
     let at = c.args.at in
     let fs = fields c.args.line.now in
     let new = c.new-fields.ensures in
@@ -54,7 +54,7 @@ inlet_in-requires c =
 
 pub returns-in_err-inlet : goal.returns-in_err-inlet
 returns-in_err-inlet c =
-    let p = err_from_is_err_and c.from-residual-in_err-inlet.result c.from-residual-in_err-inlet.ensures.1 in
+    let p = err_from_is_err_and c.from_residual-in_err-inlet.result c.from_residual-in_err-inlet.ensures.1 in
     let at = c.args.at in
     let fs = fields c.args.line.now in
     let new = c.new-fields.ensures in

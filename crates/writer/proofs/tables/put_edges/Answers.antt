@@ -10,7 +10,7 @@ loop-edge-init c = before (edge_line (names (map entry c.args.tasks.now))) c.arg
 
 pub returns-in_err-put_edge : goal.returns-in_err-put_edge
 returns-in_err-put_edge c =
-    halt (edge_line (names (map entry c.args.tasks.now))) _ c.args.edges.now c.loop-edge.edge-index _ c.from-residual.result (omega arith) c.loop-edge.invariant c.from-residual.ensures.1 c.in_err-put_edge.ensures
+    halt (edge_line (names (map entry c.args.tasks.now))) _ c.args.edges.now c.loop-edge.edge-index _ c.from_residual.result (omega arith) c.loop-edge.invariant c.from_residual.ensures.1 c.in_err-put_edge.ensures
 
 pub loop-edge-preserved : goal.loop-edge-preserved
 loop-edge-preserved c =

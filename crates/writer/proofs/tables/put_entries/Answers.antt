@@ -12,7 +12,7 @@ loop-task-init c = before (λ t. entry_line (entry t)) c.args.out.now c.args.tas
 pub returns-in_err-put_entry : goal.returns-in_err-put_entry
 returns-in_err-put_entry c =
     let t = c.task-item.result in
-    halt (λ t. entry_line (entry t)) _ c.args.tasks.now c.loop-task.task-index t c.from-residual.result (omega arith) c.loop-task.invariant c.from-residual.ensures.1
+    halt (λ t. entry_line (entry t)) _ c.args.tasks.now c.loop-task.task-index t c.from_residual.result (omega arith) c.loop-task.invariant c.from_residual.ensures.1
     (subst (λ u. Short c.loop-task.out (entry_line (entry u)) c.put_entry.new.out) c.task-item.is c.in_err-put_entry.ensures)
 
 pub loop-task-preserved : goal.loop-task-preserved

@@ -4,8 +4,8 @@ use Rattle.writer.proofs.tables.put_goal.Goals as goal
 
 pub returns-in_err-put_number : goal.returns-in_err-put_number
 returns-in_err-put_number c =
-    let r = c.from-residual-in_err-put_number.result in
-    next _ _ r c.in_ok-put.ensures (stop _ _ r c.from-residual-in_err-put_number.ensures.1 c.in_err-put_number.ensures)
+    let r = c.from_residual-in_err-put_number.result in
+    next _ _ r c.in_ok-put.ensures (stop _ _ r c.from_residual-in_err-put_number.ensures.1 c.in_err-put_number.ensures)
 
 pub returns : goal.returns
 returns c =
