@@ -1,2 +1,4 @@
 pub mod InnerService
 pub mod Stacks
+pub mod WithinLaws
+pub mod StackLaws

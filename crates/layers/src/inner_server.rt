@@ -1,4 +1,5 @@
 ghost use Rattle.layers.specs.InnerService.{inner_service, InnerSteps, MakesInner};
+ghost use Rattle.layers.specs.WithinLaws.{inner_laws, inner_moves};
 
 use crate::inner::Inner;
 use faults::fault::Fault;
@@ -21,6 +22,10 @@ impl<S: Server> Server for Inner<S> {
     ghost service = { inner_service S.Server.service };
 
     ghost steps = { InnerSteps S.Server.steps };
+
+    ghost keeps = { inner_laws (record { service = S.Server.service; steps = S.Server.steps; keeps = S.Server.keeps; moves = S.Server.moves }) };
+
+    ghost moves = { inner_moves (record { service = S.Server.service; steps = S.Server.steps; keeps = S.Server.keeps; moves = S.Server.moves }) };
 
     fn tick(&mut self, claimed: bool) -> bool {
         if self.below.tick(claimed) {

@@ -1,4 +1,5 @@
 ghost use Rattle.layers.specs.Stacks.{stack_service, StackSteps, MakesStack};
+ghost use Rattle.layers.specs.StackLaws.{stack_laws, stack_moves};
 
 use crate::inner::Inner;
 use crate::stack::Stack;
@@ -22,6 +23,10 @@ impl<S: Server> Server for Stack<S> {
     ghost service = { stack_service S.Server.service };
 
     ghost steps = { StackSteps S.Server.steps };
+
+    ghost keeps = { stack_laws (record { service = S.Server.service; steps = S.Server.steps; keeps = S.Server.keeps; moves = S.Server.moves }) };
+
+    ghost moves = { stack_moves (record { service = S.Server.service; steps = S.Server.steps; keeps = S.Server.keeps; moves = S.Server.moves }) };
 
     fn tick(&mut self, claimed: bool) -> bool {
         match self {

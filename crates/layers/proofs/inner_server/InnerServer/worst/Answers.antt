@@ -2,7 +2,7 @@
 use Rattle.std.proofs.Common.{arith}
 use Rattle.std.proofs.lemmas.Result.{err_from_is_err_and}
 use Rattle.servers.specs.Slices.{worst_of}
-use Rattle.layers.proofs.WithinLaws.{worst_least}
+use Rattle.layers.specs.WithinLaws.{worst_least}
 use Rattle.layers.proofs.inner_server.InnerServer.worst.Goals as goal
 
 pub returns-in_err-needed : goal.returns-in_err-needed

@@ -1,7 +1,7 @@
 -- A server with or without a layer keeps the laws, whatever server it is.
 use Rattle.std.proofs.Common.{Bool}
 use Rattle.servers.specs.Service.{Laws, Ticks, Model}
-use Rattle.layers.proofs.WithinLaws.{inner_laws, inner_moves}
+use Rattle.layers.specs.WithinLaws.{inner_laws, inner_moves}
 use Rattle.layers.specs.Stacks.{stack_service, StackSteps}
 use Rattle.layers.specs.declared.stack.Stack.{Stack}
 use Rattle.layers.specs.declared.stack.Stack.TheVariants.{Bare, Layered}
