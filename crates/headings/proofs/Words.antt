@@ -3,6 +3,8 @@ use Rattle.std.proofs.Common.{◌≡◌, ℕ, Bool, true, false, cond, List, [],
 use Rattle.lexer.specs.Text.{fields, line_of}
 use Rattle.std.proofs.lemmas.Bool.{false≢true}
 use Rattle.lexer.specs.Left.{fields_left, Took, NextBy}
+use denote.Enum.Bare.{sameb}
+use Rattle.lexer.specs.contracts.token.Shape.{the_type}
 use Rattle.lexer.specs.declared.token.Shape.{Shape}
 use Rattle.lexer.specs.declared.token.Shape.TheVariants.{Word, Number, LineEnd}
 use Rattle.lexer.specs.declared.token.Token.{Token}
@@ -53,13 +55,10 @@ not_word Number f t g c ws n k e = let l = n.left in let p : t.part.now ≡ colu
 not_word LineEnd f t g c ws n k e = let l = n.none in let z : ◌≡◌ {A = ℕ} 0 1 = cc in omega arith
 
 -- the line's end is read exactly where no field is left
-pub at_end : (s : Shape) (f : Fields) (t : Token) (g : Fields) (b : Bool) → NextBy s f t g → cond b (s ≡ LineEnd) (s ≡ LineEnd → ⊥) → Decides b (fields_left f ≡ [])
-at_end Word f t g true n d = let z : ◌≡◌ {A = ℕ} 0 1 = cc in absurd (omega arith)
-at_end Word f t g false n d = (λ e. absurd (false≢true e), λ e. let l = n.left in let z : ◌≡◌ {A = ℕ} 0 1 = cc in absurd (omega arith))
-at_end Number f t g true n d = let z : ◌≡◌ {A = ℕ} 0 1 = cc in absurd (omega arith)
-at_end Number f t g false n d = (λ e. absurd (false≢true e), λ e. let l = n.left in let z : ◌≡◌ {A = ℕ} 0 1 = cc in absurd (omega arith))
-at_end LineEnd f t g true n d = (λ e. n.none, λ e. refl)
-at_end LineEnd f t g false n d = absurd (d refl)
+pub at_end : (s : Shape) (f : Fields) (t : Token) (g : Fields) (b : Bool) → NextBy s f t g → b ≡ sameb the_type s LineEnd → Decides b (fields_left f ≡ [])
+at_end Word f t g b n d = (λ e. absurd (false≢true (sym d ∙ e)), λ e. let l = n.left in let z : ◌≡◌ {A = ℕ} 0 1 = cc in absurd (omega arith))
+at_end Number f t g b n d = (λ e. absurd (false≢true (sym d ∙ e)), λ e. let l = n.left in let z : ◌≡◌ {A = ℕ} 0 1 = cc in absurd (omega arith))
+at_end LineEnd f t g b n d = (λ e. n.none, λ e. d)
 
 -- one field and one column on
 pub word_on : (f : Fields) (t : Token) (g : Fields) (c : Column) (cs : List Column) → Took f t g → t.part.now ≡ column_word c → (fields_left f ≡ map column_word (c ∷ cs) → fields_left g ≡ map column_word cs) × (fields_left g ≡ map column_word cs → fields_left f ≡ map column_word (c ∷ cs))
