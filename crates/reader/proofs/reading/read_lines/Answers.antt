@@ -14,7 +14,7 @@ use Rattle.reader.specs.TableChecks as tables
 use Rattle.reader.proofs.LinesMore.{known}
 use Rattle.reader.proofs.Steps.{Sized, handed_on, by_tables, names_of, past_goal, past_tasks}
 use Rattle.reader.proofs.reading.read_lines.Goals as goal
-use Rattle.reader.proofs.reading.read_lines.Goals.{In-ok-tasks, at·returns-in_err-edges, at·returns}
+use Rattle.reader.proofs.reading.read_lines.Goals.{In_ok-tasks}
 
 pub returns-in_err-goal : goal.returns-in_err-goal
 returns-in_err-goal c =
@@ -48,7 +48,7 @@ record Past (t : List ℕ) (es : List (List ℕ)) (ns : List (List ℕ)) : Type 
   left : es ≡ edge_table (lines t)
   known_are : ns ≡ names_in (lines t)
 
-past : (c : In-ok-tasks) → Past c.args.text.now (lines_left c.task_table.new.lines) (known (vec_items c.in_ok-tasks.tasks.tasks))
+past : (c : In_ok-tasks) → Past c.args.text.now (lines_left c.task_table.new.lines) (known (vec_items c.in_ok-tasks.tasks.tasks))
 past c =
     let t = c.args.text.now in
     let sized : Sized c.args.text.now = grind (arith, nat_tests) in
@@ -66,7 +66,7 @@ past c =
 pub returns-in_err-edges : goal.returns-in_err-edges
 returns-in_err-edges c =
     let t = c.args.text.now in
-    let p = past (at·returns-in_err-edges c).In-ok-tasks in
+    let p = past (goal.at.returns-in_err-edges c).In_ok-tasks in
     let r = c.from_residual-in_err-edges in
     handed_on r.result _ (checks t) _ r.ensures.1
     (p.go_on ∙ ap (λ ts. first (tables.edge_table (known ts) (lines_left c.task_table.new.lines))) (sym c.deref.ensures.value) ∙ c.in_err-edges.ensures)
@@ -74,7 +74,7 @@ returns-in_err-edges c =
 pub returns : goal.returns
 returns c =
     let t = c.args.text.now in
-    let p = past (at·returns c).In-ok-tasks in
+    let p = past (goal.at.returns c).In_ok-tasks in
     let same = ap known c.deref.ensures.value in
     let ns = same ∙ p.known_are in
     let below = ap (drop 1) (c.in_ok-goal.ensures.left refl ∙ ap (drop 3) c.new-lines.ensures) ∙ drop-drop 1 3 (lines t) in

@@ -14,7 +14,7 @@ use Rattle.sheets.specs.Reads.{entry}
 use Rattle.reader.specs.Lists.{Holds}
 use Rattle.reader.proofs.LinesMore.{known, Entered, entered, stopped, closed, broken_off, all_made_push}
 use Rattle.reader.proofs.tables.entries_in.Goals as goal
-use Rattle.reader.proofs.tables.entries_in.Goals.{In-ok-task, at·push_reserved-requires, at·push_reserved-requires-in-each, at·push_reserved-requires-in-each-2, at·each-again}
+use Rattle.reader.proofs.tables.entries_in.Goals.{In_ok-task}
 
 pub each-init : goal.each-init
 each-init c =
@@ -78,7 +78,7 @@ returns-in_err-task c =
     }
 
 -- a task's line was in order
-turn : (c : In-ok-task) → Entered (vec_items c.each.tasks) c.in_ok-task.task (lines_left c.each.lines)
+turn : (c : In_ok-task) → Entered (vec_items c.each.tasks) c.in_ok-task.task (lines_left c.each.lines)
 turn c =
     let ts = vec_items c.each.tasks in
     let ls = lines_left c.each.lines in
@@ -87,13 +87,13 @@ turn c =
     entered c.deref.result.now ts c.in_ok-task.task _ c.next-line.result.now ls c.deref.ensures.value at c.next-line.ensures.is some (sym c.if-is_empty_line.ensures) c.in_ok-task.ensures.0 c.in_ok-task.ensures.1.0
 
 pub push_reserved-requires : goal.push_reserved-requires
-push_reserved-requires c = let s = turn (at·push_reserved-requires c).In-ok-task in omega (arith, s.room, c.each.invariant.7)
+push_reserved-requires c = let s = turn (goal.at.push_reserved-requires c).In_ok-task in omega (arith, s.room, c.each.invariant.7)
 
 pub push_reserved-requires-in-each : goal.push_reserved-requires-in-each
-push_reserved-requires-in-each c = let s = turn (at·push_reserved-requires-in-each c).In-ok-task in omega (arith, s.room, c.each.invariant.5, c.each.invariant.8)
+push_reserved-requires-in-each c = let s = turn (goal.at.push_reserved-requires-in-each c).In_ok-task in omega (arith, s.room, c.each.invariant.5, c.each.invariant.8)
 
 pub push_reserved-requires-in-each-2 : goal.push_reserved-requires-in-each-2
-push_reserved-requires-in-each-2 c = let s = turn (at·push_reserved-requires-in-each-2 c).In-ok-task in omega (arith, s.room, c.each.invariant.6, c.each.invariant.9)
+push_reserved-requires-in-each-2 c = let s = turn (goal.at.push_reserved-requires-in-each-2 c).In_ok-task in omega (arith, s.room, c.each.invariant.6, c.each.invariant.9)
 
 pub each-smaller : goal.each-smaller
 each-smaller c =
@@ -103,7 +103,7 @@ each-smaller c =
 
 pub each-preserved : goal.each-preserved
 each-preserved c =
-    let s = turn (at·each-again c).In-ok-task in
+    let s = turn (goal.at.each-preserved c).In_ok-task in
     let ts = vec_items c.each.tasks in
     let t = c.in_ok-task.task in
     let items = sym c.push_reserved.ensures.items in

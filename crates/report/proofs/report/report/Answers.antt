@@ -9,7 +9,7 @@ use Rattle.sheets.specs.Reads.{page}
 use Rattle.report.specs.Reports.{Reports, table, refusal, figures_table}
 use Rattle.report.proofs.Told.{ready_is}
 use Rattle.report.proofs.report.report.Goals as goal
-use Rattle.report.proofs.report.report.Goals.{Joined-read, in-Ok, in-Err, at·returns-in-Ok-put, at·returns-in-Err-put}
+use Rattle.report.proofs.report.report.Goals.{Joined-read, in-Ok, in-Err}
 
 pub put_table-put-requires : goal.put_table-put-requires
 put_table-put-requires c = ready_is c.args.text.now c.in-Ok.sheet c.in-Ok.ensures.reads.says
@@ -33,11 +33,11 @@ put_by c =
 
 pub returns-in-Ok-put : goal.returns-in-Ok-put
 returns-in-Ok-put c =
-    let p = put_by (at·returns-in-Ok-put c).Joined-read in
+    let p = put_by (goal.at.returns-in-Ok-put c).Joined-read in
     (p.bytes, p.reports, subst (λ r. Puts c.args.out.now p.bytes r c.match-read.out) c.in-Ok-put.is p.puts)
 
 pub returns-in-Err-put : goal.returns-in-Err-put
 returns-in-Err-put c =
-    let p = put_by (at·returns-in-Err-put c).Joined-read in
+    let p = put_by (goal.at.returns-in-Err-put c).Joined-read in
     let short : Short c.args.out.now p.bytes c.match-read.out = subst (λ r. Puts c.args.out.now p.bytes r c.match-read.out) c.in-Err-put.is p.puts in
     (p.bytes, p.reports, record { items = c.truncate.ensures.items ∙ ap (λ n. take n (vec_items c.match-read.out)) c.len-before.ensures ∙ short.kept; short = short.short })
