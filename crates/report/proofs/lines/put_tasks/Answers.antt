@@ -17,8 +17,8 @@ unreachable-requires c =
     let is = c.task-item.is ∙ ap (λ ts. get_or ts v t) c.deref-task-items.ensures.value in
     c.in-Err.ensures (told_is s v t c.requires h is)
 
-pub returns-in_err-put_figures : goal.returns-in_err-put_figures
-returns-in_err-put_figures c =
+pub returns-in_err-put_figures-in-Ok : goal.returns-in_err-put_figures-in-Ok
+returns-in_err-put_figures-in-Ok c =
     let s = c.args.sheet.now in
     let ts = vec_items s.tasks in
     let t = c.task-item.result in
@@ -29,7 +29,7 @@ returns-in_err-put_figures c =
     let text = line_is s v t c.in-Ok.figures _ c.requires h is c.as_bytes.ensures c.in-Ok.ensures in
     same_text _ _ r (sym (joined_map figures_line entry ts))
     (halt (λ t. figures_line (entry t)) _ ts v t r (omega (arith, s.tasks.ok.0)) c.loop-place.invariant c.from_residual.ensures.1
-    (subst (λ u. Short c.loop-place.out (figures_line (entry u)) c.put_figures.new.out) is (subst (λ l. Short c.loop-place.out l c.put_figures.new.out) text c.in_err-put_figures.ensures)))
+    (subst (λ u. Short c.loop-place.out (figures_line (entry u)) c.put_figures.new.out) is (subst (λ l. Short c.loop-place.out l c.put_figures.new.out) text c.in_err-put_figures-in-Ok.ensures)))
 
 pub loop-place-preserved : goal.loop-place-preserved
 loop-place-preserved c =
@@ -41,7 +41,7 @@ loop-place-preserved c =
     let is = c.task-item.is ∙ ap (λ ts. get_or ts v t) c.deref-task-items.ensures.value in
     let text = line_is s v t c.in-Ok.figures _ c.requires h is c.as_bytes.ensures c.in-Ok.ensures in
     turn (λ t. figures_line (entry t)) ts v t (omega (arith, s.tasks.ok.0)) c.loop-place.invariant
-    (subst (λ u. Added c.loop-place.out (figures_line (entry u)) c.put_figures.new.out) is (subst (λ l. Added c.loop-place.out l c.put_figures.new.out) text c.in_ok-put_figures.ensures))
+    (subst (λ u. Added c.loop-place.out (figures_line (entry u)) c.put_figures.new.out) is (subst (λ l. Added c.loop-place.out l c.put_figures.new.out) text c.in_ok-put_figures-in-Ok.ensures))
 
 pub returns : goal.returns
 returns c =
