@@ -1,6 +1,6 @@
 -- The first fault of checks, and of checks after others.
 use Rattle.std.proofs.Common.{◌≡◌, ℕ, Bool, true, false, cond, List, [], ◌∷◌, ◌++◌, Some, None, Option, refl, ap, ◌∙◌, arith}
-use Rattle.std.specs.List.{AllByRecursion as All}
+use Rattle.std.specs.List.{AllByRecursion}
 use Rattle.faults.specs.declared.fault.Fault.{Fault}
 use Rattle.cells.specs.Checks.{Check, First, first}
 
@@ -54,7 +54,7 @@ pub first_is : (cs : List Check) (f : Fault) → first cs ≡ Some f → First c
 first_is [] f e = absurd (some_none None f e refl)
 first_is (c ∷ cs) f e = found c cs f c.broken refl (first_is cs f) e
 
-pub all_none : (cs : List Check) → All (λ c. c.broken ≡ false) cs → first cs ≡ None
+pub all_none : (cs : List Check) → AllByRecursion (λ c. c.broken ≡ false) cs → first cs ≡ None
 all_none [] a = refl
 all_none (c ∷ cs) a = ap (λ b. cond b (Some c.told) (first cs)) a.0 ∙ all_none cs a.1
 
@@ -64,6 +64,6 @@ first_from cs f k =
     ∙ ap (λ b. cond b (Some k.here.told) (first k.behind)) k.breaks ∙ ap Some k.tells
 
 -- no fault: each check is in order
-pub passed : (cs : List Check) → first cs ≡ None → All (λ c. c.broken ≡ false) cs
+pub passed : (cs : List Check) → first cs ≡ None → AllByRecursion (λ c. c.broken ≡ false) cs
 passed [] e = tt
 passed (c ∷ cs) e = let k = clear c cs e in (k.0, passed cs k.1)

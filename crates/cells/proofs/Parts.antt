@@ -1,6 +1,6 @@
 -- Lines and fields, cut apart and put together again.
 use Rattle.std.proofs.Common.{◌≡◌, ℕ, Bool, true, false, cond, ◌&&◌, ◌||◌, eqb, List, [], ◌∷◌, ◌++◌, length, sym, refl, ap, ◌∙◌, subst, arith}
-use Rattle.std.specs.List.{flat_map, AllByRecursion as All}
+use Rattle.std.specs.List.{flat_map, AllByRecursion}
 use Rattle.std.proofs.lemmas.List.{nil_from_length}
 use Rattle.std.proofs.lemmas.Bool.Decides.{nat_tests}
 use Rattle.std.proofs.lemmas.Bool.{false≢true, and_parts, eqb-true, or_from}
@@ -30,7 +30,7 @@ lines_one [] r w = absurd (false≢true w)
 lines_one (b ∷ bs) r w = one_step (eqb b 10) b bs r w (lines_one bs r)
 
 -- whole lines, one after another, are the lines of their text
-pub lines_all : (ls : List (List ℕ)) → All (λ l. well l ≡ true) ls → lines (flat_map (λ (l : List ℕ). l) ls) ≡ ls
+pub lines_all : (ls : List (List ℕ)) → AllByRecursion (λ l. well l ≡ true) ls → lines (flat_map (λ (l : List ℕ). l) ls) ≡ ls
 lines_all [] a = refl
 lines_all (l ∷ ls) a = lines_one l (flat_map (λ (l : List ℕ). l) ls) a.0 ∙ ap (λ m. l ∷ m) (lines_all ls a.1)
 
@@ -88,10 +88,10 @@ fields_front (b ∷ f) r s h p =
     ∙ ap (onto b) (fields_front f r s h a.1)
 
 -- plain fields, put together, are a line in order that has those fields
-pub glue_well : (f : List ℕ) (fs : List (List ℕ)) → plains f ≡ true → All (λ g. plains g ≡ true) fs → well (glue f fs) ≡ true
+pub glue_well : (f : List ℕ) (fs : List (List ℕ)) → plains f ≡ true → AllByRecursion (λ g. plains g ≡ true) fs → well (glue f fs) ≡ true
 glue_well f [] p a = well_front f end p refl
 glue_well f (g ∷ fs) p a = well_front f (32 ∷ glue g fs) p (glue_well g fs a.0 a.1)
 
-pub glue_fields : (f : List ℕ) (fs : List (List ℕ)) → plains f ≡ true → All (λ g. plains g ≡ true) fs → fields (glue f fs) ≡ f ∷ fs
+pub glue_fields : (f : List ℕ) (fs : List (List ℕ)) → plains f ≡ true → AllByRecursion (λ g. plains g ≡ true) fs → fields (glue f fs) ≡ f ∷ fs
 glue_fields f [] p a = fields_front f [] 10 refl p
 glue_fields f (g ∷ fs) p a = fields_front f (glue g fs) 32 refl p ∙ ap (λ x. f ∷ x) (glue_fields g fs a.0 a.1)

@@ -1,6 +1,6 @@
 -- Checks in an order, each with the fault that it tells, and the first that fails.
 use Rattle.std.specs.Prelude.{◌≡◌, ℕ, Bool, true, false, cond, List, [], ◌∷◌, ◌++◌, Some, None, Ok, Err, Option, Result}
-use Rattle.std.specs.List.{AllByRecursion as All}
+use Rattle.std.specs.List.{AllByRecursion}
 use Rattle.faults.specs.Faults.{fault}
 use Rattle.faults.specs.declared.fault.Fault.{Fault}
 use Rattle.faults.specs.declared.layer.Layer.TheVariants.{Reader}
@@ -19,7 +19,7 @@ pub record First (cs : List Check) (f : Fault) : Type 0 where
   pub here : Check
   pub behind : List Check
   pub split : cs ≡ before ++ (here ∷ behind)
-  pub in_order : All (λ c. c.broken ≡ false) before
+  pub in_order : AllByRecursion (λ c. c.broken ≡ false) before
   pub breaks : here.broken ≡ true
   pub tells : here.told ≡ f
 

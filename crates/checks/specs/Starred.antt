@@ -1,5 +1,5 @@
 -- The worked figures of the rules, each as it is computed by the definitions and as it is expected.
-use Rattle.std.specs.Prelude.{ℕ, ◌+◌, Bool, true, cond, ◌&&◌, List, [], ◌∷◌, ◌==◌, nat_le}
+use Rattle.std.specs.Prelude.{ℕ, Bool, true, cond, ◌&&◌, List, [], ◌∷◌, ◌==◌, nat_le}
 use Rattle.faults.specs.Numbers.{number_of, reason_by}
 use Rattle.servers.specs.Service.{Service}
 use Rattle.servers.specs.Figures.{ceiling}

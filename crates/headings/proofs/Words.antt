@@ -1,5 +1,5 @@
 -- The words of columns are not empty, and a heading's fields are its columns' words.
-use Rattle.std.proofs.Common.{◌≡◌, ℕ, Bool, true, false, cond, List, [], ◌∷◌, map, length, Decides, sym, refl, ap, ◌∙◌, arith}
+use Rattle.std.proofs.Common.{◌≡◌, ℕ, Bool, true, List, [], ◌∷◌, map, length, Decides, sym, refl, ap, ◌∙◌, arith}
 use Rattle.lexer.specs.Text.{fields, line_of}
 use Rattle.std.proofs.lemmas.Bool.{false≢true}
 use Rattle.lexer.specs.Left.{fields_left, Took, NextBy}

@@ -5,7 +5,7 @@ use Rattle.servers.specs.Slices.{worst_of, pace_of}
 use Rattle.servers.specs.declared.fixed.Fixed.{Fixed}
 use Rattle.flow.specs.Nets.{Sound, Arrivals}
 use Rattle.flow.specs.Finish.{Feeds, ReadyLargest, Finish, finish, by_worst}
-use Rattle.runs.specs.States.{State, Finished, no_arrivals, all_hold, supplied, put_out, arrived, ticked}
+use Rattle.runs.specs.States.{State, Finished, no_arrivals, all_hold, supplied, put_out, ticked}
 use Rattle.runs.specs.Runs.{tick, arrivals_of, Whole, why, none, more, Run, begin, arrives, ticks, takes}
 use Rattle.runs.specs.Sample.{sample_net, SampleRack, sample_service, sample_steps, sample_calls, SampleFigures, SampleRun, Sample}
 use Rattle.runs.proofs.SampleFigures.{sample_figures}

@@ -1,5 +1,5 @@
 -- Exactly which ticks of a run a fixed slice and a float grant.
-use Rattle.std.proofs.Common.{◌≡◌, ℕ, zero, suc, ◌+◌, ◌-◌, ◌<◌, ◌≤◌, Bool, true, false, cond, ◌⊎◌, List, [], ◌∷◌, length, sym, refl, ap, ◌∙◌, ⊎_elim, arith, ltb-false, ltb-true}
+use Rattle.std.proofs.Common.{◌≡◌, ℕ, zero, suc, ◌+◌, ◌-◌, ◌<◌, ◌≤◌, Bool, true, false, cond, List, [], ◌∷◌, length, sym, refl, ap, ◌∙◌, ⊎_elim, arith, ltb-false, ltb-true}
 use Rattle.servers.specs.Runs.{Tick, Run, grants}
 use Rattle.servers.specs.Exactly.{EndsGranted, Exactly, Starts, EachPeriod}
 use Rattle.servers.specs.FixedService.{fixed_service, Moves}

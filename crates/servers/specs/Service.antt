@@ -1,5 +1,5 @@
 -- What a server offers a task: its service, the laws that a service keeps, and what a tick does to it.
-use Rattle.std.specs.Prelude.{◌≡◌, ℕ, ◌+◌, ◌-◌, ◌<◌, ◌≤◌, Bool, true, false}
+use Rattle.std.specs.Prelude.{◌≡◌, ℕ, ◌+◌, ◌<◌, ◌≤◌, Bool, true, false}
 
 -- wait n: within so many ticks from now n more are granted, whatever others claim. Of the state.
 -- The rest is fixed by the settings. worst n: the longest wait for n grants in any state.

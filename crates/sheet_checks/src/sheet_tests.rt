@@ -11,7 +11,7 @@ const SAMPLE: &[u8] =
 fn sheet_as_types(rt: HostRuntime) -> Result<(), Fail> {
     let sheet = read(SAMPLE, Room::new(rt.alloc())?)?;
     assert!(rt; sheet.tasks.len() == 2 && sheet.graph.edges.len() == 2);
-    assert!(rt; sheet.tasks[1].name.as_bytes() == b"punch");
+    assert!(rt; sheet.tasks[1].name.as_bytes() == b"punch".as_slice());
     assert!(rt; sheet.tasks[0].inlet && sheet.tasks[0].slice.phase == 4);
     assert!(rt; sheet.tasks[1].layer.slice == 1 && sheet.graph.goal == 32);
     assert!(rt; sheet.graph.edges[1].from == 1 && sheet.graph.edges[1].tokens == 255);
@@ -33,7 +33,7 @@ fn names_of_12_bytes(rt: HostRuntime) -> Result<(), Fail> {
     let Some(name) = Name::new(b"abcdefghijkl") else {
         return Err(Fail::new("12 bytes are a name"));
     };
-    assert!(rt; name.as_bytes() == b"abcdefghijkl");
+    assert!(rt; name.as_bytes() == b"abcdefghijkl".as_slice());
     assert!(rt; Name::new(b"abcdefghijklm").is_none());
     Ok(())
 }

@@ -1,6 +1,6 @@
 -- What is written of a sheet in order has no fault, and means that sheet.
 use Rattle.std.proofs.Common.{◌≡◌, ℕ, ◌+◌, ◌<◌, ◌≤◌, true, cond, ◌||◌, eqb, leb, List, [], ◌∷◌, ◌++◌, map, length, get_or, drop, None, decimal, sym, refl, ap, ◌∙◌, subst, arith}
-use Rattle.std.specs.List.{AllByRecursion as All}
+use Rattle.std.specs.List.{AllByRecursion}
 use Rattle.std.proofs.ByRecursion.{All-append, All-map, All-weaker}
 use Rattle.std.proofs.lemmas.List.{length_push, length-map}
 use Rattle.std.proofs.lemmas.Bool.{or_from, not_from_true, ne_eqb, lt-leb}
@@ -53,7 +53,7 @@ goal_clear n least most =
 name_back : (e : Entry) → Fine e → field 0 (entry_line e) ≡ e.name
 name_back e f = ap (λ x. get_or x 0 []) (entry_back e f).cut
 
-entries_clear : (ns : List (List ℕ)) (es : List Entry) (rest : List (List ℕ)) → All Fine es → Apart ns (names es) → length ns + length es ≤ 16 → 0 < length ns + length es → first (entries_checks ns (map entry_line es ++ (end ∷ rest))) ≡ None
+entries_clear : (ns : List (List ℕ)) (es : List Entry) (rest : List (List ℕ)) → AllByRecursion Fine es → Apart ns (names es) → length ns + length es ≤ 16 → 0 < length ns + length es → first (entries_checks ns (map entry_line es ++ (end ∷ rest))) ≡ None
 entries_clear ns [] rest f a few some = all_none (bad (eqb (length ns) 0) 9 (5 + length ns) 0 ∷ []) (ne_eqb (length ns) 0 (λ z. omega arith), tt)
 entries_clear ns (e ∷ es) rest f a few some =
     let l = entry_line e in
@@ -65,45 +65,45 @@ entries_clear ns (e ∷ es) rest f a few some =
     (entry_clear ns (5 + length ns) e f.0 a.0 (omega arith))
     (ap (λ m. first (entries_checks (ns ++ m ∷ []) ls)) (name_back e f.0) ∙ entries_clear (ns ++ e.name ∷ []) es rest f.1 a.1 (omega (arith, n)) (omega (arith, n)))
 
-up_to : (es : List Entry) (rest : List (List ℕ)) → All Fine es → up_to_empty (map entry_line es ++ (end ∷ rest)) ≡ map entry_line es
+up_to : (es : List Entry) (rest : List (List ℕ)) → AllByRecursion Fine es → up_to_empty (map entry_line es ++ (end ∷ rest)) ≡ map entry_line es
 up_to [] rest f = refl
 up_to (e ∷ es) rest f =
     ap (λ b. cond b [] (entry_line e ∷ up_to_empty (map entry_line es ++ (end ∷ rest)))) (entry_back e f.0).full
     ∙ ap (λ x. entry_line e ∷ x) (up_to es rest f.1)
 
-past : (es : List Entry) (rest : List (List ℕ)) → All Fine es → past_empty (map entry_line es ++ (end ∷ rest)) ≡ rest
+past : (es : List Entry) (rest : List (List ℕ)) → AllByRecursion Fine es → past_empty (map entry_line es ++ (end ∷ rest)) ≡ rest
 past [] rest f = refl
 past (e ∷ es) rest f =
     let ls = map entry_line es ++ (end ∷ rest) in
     ap (λ b. cond b ls (past_empty ls)) (entry_back e f.0).full ∙ past es rest f.1
 
-entries_same : (es : List Entry) → All Fine es → map entry_of (map entry_line es) ≡ es
+entries_same : (es : List Entry) → AllByRecursion Fine es → map entry_of (map entry_line es) ≡ es
 entries_same [] f = refl
 entries_same (e ∷ es) f = let a = entry_same e f.0 in let b = entries_same es f.1 in λ i. a i ∷ b i
 
-names_same : (es : List Entry) → All Fine es → map (field 0) (map entry_line es) ≡ names es
+names_same : (es : List Entry) → AllByRecursion Fine es → map (field 0) (map entry_line es) ≡ names es
 names_same [] f = refl
 names_same (e ∷ es) f = let a = name_back e f.0 in let b = names_same es f.1 in λ i. a i ∷ b i
 
 -- The edges.
 
-edges_clear : (ns : List (List ℕ)) (k : ℕ) (es : List Edge) → All (λ n. named n ≡ true) ns → All (Joins (length ns)) es → k + length es ≤ 48 → first (edges_checks ns k (map (edge_line ns) es)) ≡ None
+edges_clear : (ns : List (List ℕ)) (k : ℕ) (es : List Edge) → AllByRecursion (λ n. named n ≡ true) ns → AllByRecursion (Joins (length ns)) es → k + length es ≤ 48 → first (edges_checks ns k (map (edge_line ns) es)) ≡ None
 edges_clear ns k [] a j h = refl
 edges_clear ns k (e ∷ es) a j h =
     none_both (edge_checks ns k (7 + (length ns + k)) (edge_line ns e)) (edges_checks ns (k + 1) (map (edge_line ns) es))
     (edge_clear ns k (7 + (length ns + k)) e a j.0 (omega arith))
     (edges_clear ns (k + 1) es a j.1 (omega arith))
 
-edges_same : (ns : List (List ℕ)) (es : List Edge) → All (λ n. named n ≡ true) ns → Distinct ns → All (Joins (length ns)) es → map (edge_of ns) (map (edge_line ns) es) ≡ es
+edges_same : (ns : List (List ℕ)) (es : List Edge) → AllByRecursion (λ n. named n ≡ true) ns → Distinct ns → AllByRecursion (Joins (length ns)) es → map (edge_of ns) (map (edge_line ns) es) ≡ es
 edges_same ns [] a d j = refl
 edges_same ns (e ∷ es) a d j = let x = edge_same ns e a d j.0 in let y = edges_same ns es a d j.1 in λ i. x i ∷ y i
 
 -- A sheet in order, with its edges by the names of its tasks.
 pub record Ready (p : Page) : Type 0 where
   pub in_order : InOrder p
-  pub fine : All Fine p.tasks
-  pub named : All (λ n. named n ≡ true) (names p.tasks)
-  pub joins : All (Joins (length (names p.tasks))) p.edges
+  pub fine : AllByRecursion Fine p.tasks
+  pub named : AllByRecursion (λ n. named n ≡ true) (names p.tasks)
+  pub joins : AllByRecursion (Joins (length (names p.tasks))) p.edges
 
 ready : (p : Page) → InOrder p → Ready p
 ready p o =
@@ -113,7 +113,7 @@ ready p o =
       in_order = o;
       fine = f;
       named = All-map (λ n. named n ≡ true) (λ t. t.name) p.tasks (All-weaker Fine (λ t. named t.name ≡ true) (λ t g. g.legal.name) p.tasks f);
-      joins = subst (λ k. All (Joins k) p.edges) (sym n) (edges_join p o);
+      joins = subst (λ k. AllByRecursion (Joins k) p.edges) (sym n) (edges_join p o);
     }
 
 written_lines : (p : Page) → Ready p → lines (write p) ≡ page_lines p

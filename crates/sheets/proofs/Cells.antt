@@ -1,6 +1,6 @@
 -- One field: what it says where its check passes, and that the check passes where it was written.
 use Rattle.std.proofs.Common.{◌≡◌, ℕ, zero, suc, ◌+◌, ◌^◌, ◌<◌, ◌≤◌, Bool, true, false, cond, not, ◌&&◌, ◌||◌, eqb, leb, List, [], ◌∷◌, ◌++◌, length, get_or, drop, decimal, sym, refl, ap, ◌∙◌, arith}
-use Rattle.std.specs.List.{AllByRecursion as All}
+use Rattle.std.specs.List.{AllByRecursion}
 use Rattle.std.specs.Str.{bytes_eq, all_ascii_digits}
 use Rattle.std.proofs.ByRecursion.{All-weaker}
 use Rattle.std.proofs.lemmas.List.{drop_all, drop_more}
@@ -124,7 +124,7 @@ glue_full : (f : List ℕ) (fs : List (List ℕ)) → Cell f → empty (glue f f
 glue_full f [] c = not_empty f end c
 glue_full f (g ∷ fs) c = not_empty f (32 ∷ glue g fs) c
 
-all_filled : (fs : List (List ℕ)) → All Cell fs → filled fs ≡ true
+all_filled : (fs : List (List ℕ)) → AllByRecursion Cell fs → filled fs ≡ true
 all_filled [] a = refl
 all_filled (f ∷ fs) a = and_from (leb 1 (length f)) (filled fs) a.0.0 (all_filled fs a.1)
 
@@ -135,7 +135,7 @@ pub record LineBack (fs : List (List ℕ)) : Type 0 where
   pub full : empty (line_of fs) ≡ false
   pub filled : filled fs ≡ true
 
-pub line_is : (f : List ℕ) (fs : List (List ℕ)) → All Cell (f ∷ fs) → LineBack (f ∷ fs)
+pub line_is : (f : List ℕ) (fs : List (List ℕ)) → AllByRecursion Cell (f ∷ fs) → LineBack (f ∷ fs)
 line_is f fs a =
     let plain = All-weaker Cell (λ g. plains g ≡ true) (λ g c. c.1) fs a.1 in
     record { fine = glue_well f fs a.0.1 plain; cut = glue_fields f fs a.0.1 plain; full = glue_full f fs a.0; filled = all_filled (f ∷ fs) a }

@@ -1,6 +1,6 @@
 -- An edge's line and the edge that it writes.
 use Rattle.std.proofs.Common.{◌≡◌, ℕ, ◌<◌, ◌≤◌, true, not, List, [], ◌∷◌, length, get_or, None, decimal, sym, refl, ap, ◌∙◌, arith}
-use Rattle.std.specs.List.{AllByRecursion as All}
+use Rattle.std.specs.List.{AllByRecursion}
 use Rattle.std.proofs.ByRecursion.{All-get_or}
 use Rattle.std.proofs.lemmas.Bool.{not-false, not_from_true, leb-false, lt-leb}
 use Rattle.lexer.specs.Text.{fields, line_of}
@@ -45,11 +45,11 @@ edge_read ns k line l e =
       room = leb-false 48 k q.0;
     }
 
-name_of : (ns : List (List ℕ)) (v : ℕ) → All (λ n. named n ≡ true) ns → v < length ns → named (get_or ns v []) ≡ true
+name_of : (ns : List (List ℕ)) (v : ℕ) → AllByRecursion (λ n. named n ≡ true) ns → v < length ns → named (get_or ns v []) ≡ true
 name_of ns v a h = All-get_or (λ n. named n ≡ true) ns v [] h a
 
 -- what an edge between tasks of these names is written as
-pub edge_back : (ns : List (List ℕ)) (e : Edge) → All (λ n. named n ≡ true) ns → Joins (length ns) e → LineBack (edge_cells ns e)
+pub edge_back : (ns : List (List ℕ)) (e : Edge) → AllByRecursion (λ n. named n ≡ true) ns → Joins (length ns) e → LineBack (edge_cells ns e)
 edge_back ns e a j =
     line_is (get_or ns e.from []) (get_or ns e.to [] ∷ decimal e.tokens ∷ []) (
       name_cell (get_or ns e.from []) (name_of ns e.from a j.from),
@@ -62,7 +62,7 @@ edge_back ns e a j =
       ),
     )
 
-pub edge_same : (ns : List (List ℕ)) (e : Edge) → All (λ n. named n ≡ true) ns → Distinct ns → Joins (length ns) e → edge_of ns (edge_line ns e) ≡ e
+pub edge_same : (ns : List (List ℕ)) (e : Edge) → AllByRecursion (λ n. named n ≡ true) ns → Distinct ns → Joins (length ns) e → edge_of ns (edge_line ns e) ≡ e
 edge_same ns e a d j =
     let c = (edge_back ns e a j).cut in
     let from = ap (λ x. index_of ns (get_or x 0 [])) c ∙ index_same ns e.from d j.from in
@@ -70,7 +70,7 @@ edge_same ns e a d j =
     let tokens = value_at e.tokens (field 2 (edge_line ns e)) (ap (λ x. get_or x 2 []) c) (omega (arith, j.tokens)) in
     λ i. record { from = from i; to = to i; tokens = tokens i }
 
-pub edge_clear : (ns : List (List ℕ)) (k line : ℕ) (e : Edge) → All (λ n. named n ≡ true) ns → Joins (length ns) e → k < 48 → first (edge_checks ns k line (edge_line ns e)) ≡ None
+pub edge_clear : (ns : List (List ℕ)) (k line : ℕ) (e : Edge) → AllByRecursion (λ n. named n ≡ true) ns → Joins (length ns) e → k < 48 → first (edge_checks ns k line (edge_line ns e)) ≡ None
 edge_clear ns k line e a j room =
     let l = edge_line ns e in
     let b = edge_back ns e a j in

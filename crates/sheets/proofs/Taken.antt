@@ -1,6 +1,6 @@
 -- A text with no fault is the written form of its meaning, and that is in order.
 use Rattle.std.proofs.Common.{◌≡◌, ℕ, ◌+◌, ◌<◌, ◌≤◌, Bool, true, false, cond, ◌||◌, eqb, leb, List, [], ◌∷◌, ◌++◌, map, length, get_or, drop, None, sym, refl, ap, ◌∙◌, subst, arith}
-use Rattle.std.specs.List.{AllByRecursion as All}
+use Rattle.std.specs.List.{AllByRecursion}
 use Rattle.std.specs.Str.{bytes_eq}
 use Rattle.std.proofs.lemmas.List.{length_push, length-map}
 use Rattle.std.proofs.lemmas.Slice.Eq.{bytes_eq-Decides}
@@ -43,7 +43,7 @@ goal_read l e =
 pub record Entries (ns ls up past : List (List ℕ)) : Type 0 where
   pub split : up ++ (end ∷ past) ≡ ls
   pub is : map entry_line (map entry_of up) ≡ up
-  pub fine : All Fine (map entry_of up)
+  pub fine : AllByRecursion Fine (map entry_of up)
   pub apart : Apart ns (map (field 0) up)
   pub most : length ns ≤ 16 → length ns + length up ≤ 16
   pub some : 0 < length ns + length up
@@ -76,7 +76,7 @@ entries ns (l ∷ ls) e = entries_step (empty l) ns l ls (bytes_eq-Decides l end
 -- The lines below the edges' heading.
 pub record Edges (ns : List (List ℕ)) (k : ℕ) (ls : List (List ℕ)) : Type 0 where
   pub is : map (edge_line ns) (map (edge_of ns) ls) ≡ ls
-  pub joins : All (Joins (length ns)) (map (edge_of ns) ls)
+  pub joins : AllByRecursion (Joins (length ns)) (map (edge_of ns) ls)
   pub most : k ≤ 48 → k + length ls ≤ 48
 
 edges : (ns : List (List ℕ)) (k : ℕ) (ls : List (List ℕ)) → first (edges_checks ns k ls) ≡ None → Edges ns k ls
@@ -131,7 +131,7 @@ page_read (l0 ∷ l1 ∷ l2 ∷ l3 ∷ ls) a b c d e f g =
         few = omega (arith, m, tasks.most (omega arith));
         sparse = omega (arith, length-map (drop 1 past) (edge_of ns), arcs.most (omega arith));
         fine = tasks.fine;
-        joins = subst (λ k. All (Joins k) (map (edge_of ns) (drop 1 past))) (n ∙ sym m) arcs.joins;
+        joins = subst (λ k. AllByRecursion (Joins k) (map (edge_of ns) (drop 1 past))) (n ∙ sym m) arcs.joins;
         distinct = distinct (names (map entry_of up)) (subst (Apart []) (sym same) tasks.apart);
       };
     }

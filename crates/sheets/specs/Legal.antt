@@ -1,6 +1,6 @@
 -- Which sheets are legal.
 use Rattle.std.specs.Prelude.{◌≡◌, ℕ, ◌<◌, ◌≤◌, true, false, ◌⊎◌, List, [], map, length, slice_index_or}
-use Rattle.std.specs.List.{AllByRecursion as All}
+use Rattle.std.specs.List.{AllByRecursion}
 use Rattle.cells.specs.Values.{named}
 use Rattle.servers.specs.Settings.{LegalFixed}
 use Rattle.servers.specs.declared.settings.Settings.{Settings}
@@ -28,7 +28,7 @@ pub record InOrder (p : Page) : Type 0 where
   pub counts : Counts (map task_of p.tasks) p.edges
   pub ranges : Ranges p.goal (map task_of p.tasks) p.edges
   pub ends : Ends p.edges (length p.tasks)
-  pub entries : All LegalEntry p.tasks
+  pub entries : AllByRecursion LegalEntry p.tasks
   pub distinct : Distinct (names p.tasks)
   pub room : length (write p) ≤ 8192
 

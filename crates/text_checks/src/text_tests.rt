@@ -21,18 +21,18 @@ fn token(part: &[u8]) -> Token<'_> {
 #[test]
 fn tokens_of_a_sheet(rt: HostRuntime) {
     let mut lines = Lines::new(b"goal\n32 x9\nend");
-    assert!(rt; lines.next() == b"goal\n");
+    assert!(rt; lines.next() == b"goal\n".as_slice());
     let mut fields = Fields::new(lines.next(), 2);
     let first = fields.next();
-    assert!(rt; first.part == b"32" && first.line == 2 && first.field == 1);
+    assert!(rt; first.part == b"32".as_slice() && first.line == 2 && first.field == 1);
     assert_eq!(rt; first.shape, Shape::Number);
     let second = fields.next();
-    assert!(rt; second.part == b"x9" && second.line == 2 && second.field == 2);
+    assert!(rt; second.part == b"x9".as_slice() && second.line == 2 && second.field == 2);
     assert_eq!(rt; second.shape, Shape::Word);
     assert_eq!(rt; fields.next().shape, Shape::LineEnd);
     assert_eq!(rt; fields.next().shape, Shape::LineEnd);
-    assert!(rt; lines.next() == b"end");
-    assert!(rt; lines.is_done() && lines.next() == b"");
+    assert!(rt; lines.next() == b"end".as_slice());
+    assert!(rt; lines.is_done() && lines.next() == b"".as_slice());
 }
 
 // The refusal's number, 0 where the field is read.
@@ -64,7 +64,7 @@ fn numbers(rt: HostRuntime) -> Result<(), Fail> {
 
 #[test]
 fn names_and_kinds(rt: HostRuntime) -> Result<(), Fail> {
-    assert!(rt; name_in(token(b"abcdefghijk9"))? == b"abcdefghijk9");
+    assert!(rt; name_in(token(b"abcdefghijk9"))? == b"abcdefghijk9".as_slice());
     let bad: [&[u8]; 4] = [b"abcdefghijklm", b"9a", b"", b"a_b"];
     for part in bad {
         assert_eq!(rt; number_of(&rt, name_in(token(part)))?, 6);

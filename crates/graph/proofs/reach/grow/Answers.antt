@@ -1,5 +1,5 @@
 -- An edge marks a task, or leaves none to mark.
-use Rattle.std.proofs.Common.{◌≡◌, ℕ, ◌<◌, true, false, length, get_or, sym, refl, ◌∙◌, subst}
+use Rattle.std.proofs.Common.{◌≡◌, ℕ, ◌<◌, false, length, get_or, sym, refl, ◌∙◌, subst}
 use Rattle.std.proofs.lemmas.Bool.{true≢false}
 use Rattle.graph.specs.Edges.{edge_at}
 use Rattle.graph.specs.Reached.{Marked}

@@ -1,5 +1,5 @@
 -- One task line after another, up to the empty line.
-use Rattle.std.proofs.Common.{◌≡◌, ◌+◌, ◌<◌, true, false, cond, [], ◌∷◌, ◌++◌, map, length, is_ok, Some, None, Err, vec_items, sym, refl, ap, ◌∙◌, subst, arith}
+use Rattle.std.proofs.Common.{◌≡◌, ◌+◌, ◌<◌, cond, [], ◌∷◌, ◌++◌, map, length, is_ok, Some, None, Err, vec_items, sym, refl, ap, ◌∙◌, subst, arith}
 use Rattle.faults.specs.Faults.{fault}
 use Rattle.faults.specs.declared.layer.Layer.TheVariants.{Reader}
 use Rattle.std.proofs.lemmas.List.{length-drop, map_push, nil_from_length}

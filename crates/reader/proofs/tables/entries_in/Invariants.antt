@@ -1,5 +1,5 @@
 -- The lines so far are in the lists, and what is left decides as the whole does.
-use Rattle.std.proofs.Common.{◌≡◌, ◌+◌, ◌≤◌, [], ◌++◌, map, length, vec_items, vec_len, vec_capacity}
+use Rattle.std.proofs.Common.{◌≡◌, ◌≤◌, [], ◌++◌, map, length, vec_items, vec_len, vec_capacity}
 use Rattle.cells.specs.Checks.{first}
 use Rattle.lexer.specs.Left.{lines_left}
 use Rattle.sheets.specs.Checks.{entries_checks, up_to_empty, past_empty, entry_of}
