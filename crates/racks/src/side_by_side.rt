@@ -1,10 +1,9 @@
 ghost use Rattle.std.specs.Prelude.{◌≡◌, ◌-◌, ◌^◌, ◌≤◌, MatchResult};
-ghost use Rattle.std.proofs.Common.{ap, sym, ◌∙◌, ⊎_elim, arith, rules};
+ghost use Rattle.std.proofs.Common.{rules};
 ghost use Rattle.faults.specs.Faults.{fault};
 ghost use Rattle.faults.specs.declared.layer.Layer.TheVariants.{Runner as AtRunner};
 ghost use Rattle.racks.specs.Beside.{places_beside, beside, Sided, OnSide};
-ghost use Rattle.servers.specs.Rounding.{le_or_lt};
-ghost use Rattle.racks.specs.Sides.{beside_left, beside_right};
+ghost use Rattle.racks.specs.Sides.{beside_keeps, beside_moves, beside_others};
 
 use crate::rack::{Rack, no_place};
 use faults::fault::Fault;
@@ -42,57 +41,11 @@ impl<A: Rack, B: Rack> Rack for SideBySide<A, B> {
 
     ghost steps = { λ s k c g t. Sided A.Rack.steps B.Rack.steps (A.Rack.places s.first) s.first s.second k c g t.first t.second };
 
-    ghost keeps = { λ s k h.
-        let n = A.Rack.places s.first in
-        let p = A.Rack.service s.first in
-        let q = B.Rack.service s.second in
-        ⊎_elim
-        (λ i. rw (beside_right n p q k i) (B.Rack.keeps s.second (k - n) (omega arith)))
-        (λ i. rw (beside_left n p q k i) (A.Rack.keeps s.first k i))
-        (le_or_lt n k) };
+    ghost keeps = { λ s. beside_keeps _ _ _ _ (A.Rack.keeps s.first) (B.Rack.keeps s.second) };
 
-    ghost moves = { λ a b k c r m.
-        let n = A.Rack.places a.first in
-        let n' = A.Rack.places b.first in
-        let p = A.Rack.service a.first in
-        let p' = A.Rack.service b.first in
-        let q = B.Rack.service a.second in
-        let q' = B.Rack.service b.second in
-        ⊎_elim
-        (λ h.
-        let e = A.Rack.stays a.first b.first k c r h.1 in
-        rw (beside_left n p q k h.0, beside_left n' p' q' k (omega arith)) (A.Rack.moves a.first b.first k c r h.1))
-        (λ h.
-        let e : n' ≡ n = ap A.Rack.places h.2 in
-        rw (beside_right n p q k h.0, beside_right n' p' q' k (omega arith), e) (B.Rack.moves a.second b.second (k - n) c r h.1))
-        m };
+    ghost moves = { λ s t. beside_moves A.Rack.places A.Rack.service B.Rack.service A.Rack.steps B.Rack.steps A.Rack.stays A.Rack.moves B.Rack.moves s.first t.first s.second t.second };
 
-    ghost others = { λ a b k c r m j within apart.
-        let n = A.Rack.places a.first in
-        let n' = A.Rack.places b.first in
-        let p = A.Rack.service a.first in
-        let p' = A.Rack.service b.first in
-        let q = B.Rack.service a.second in
-        let q' = B.Rack.service b.second in
-        ⊎_elim
-        (λ h.
-        let e : n' ≡ n = A.Rack.stays a.first b.first k c r h.1 in
-        ⊎_elim
-        (λ i.
-        beside_right n' p' q' j (omega arith) ∙ ap (λ x. B.Rack.service x (j - n')) h.2 ∙ ap (λ x. q (j - x)) e ∙ sym (beside_right n p q j i))
-        (λ i.
-        beside_left n' p' q' j (omega arith) ∙ A.Rack.others a.first b.first k c r h.1 j i apart ∙ sym (beside_left n p q j i))
-        (le_or_lt n j))
-        (λ h.
-        let e : n' ≡ n = ap A.Rack.places h.2 in
-        ⊎_elim
-        (λ i.
-        beside_right n' p' q' j (omega arith) ∙ ap (λ x. q' (j - x)) e
-        ∙ B.Rack.others a.second b.second (k - n) c r h.1 (j - n) (omega arith) (λ z. apart (omega arith)) ∙ sym (beside_right n p q j i))
-        (λ i.
-        beside_left n' p' q' j (omega arith) ∙ ap (λ x. A.Rack.service x j) h.2 ∙ sym (beside_left n p q j i))
-        (le_or_lt n j))
-        m };
+    ghost others = { λ s t. beside_others A.Rack.places A.Rack.service B.Rack.service A.Rack.steps B.Rack.steps A.Rack.stays B.Rack.places A.Rack.others B.Rack.others s.first t.first s.second t.second };
 
     ghost stays = { Prim.search rules };
 
