@@ -19,7 +19,7 @@ module _ {T : Type 0} where
       × Full (turned b.slots.now b.head) b.len
       × Free (turned b.slots.now b.head) b.len
 
-  -- a put: at the end where there is slots_of, else nothing changes and the item comes back
+  -- a put: at the end where there is room, else nothing changes and the item comes back
   abbrev pub RingPut : Ring T → T → Result Unit T → Ring T → Type 0
   RingPut b x (Ok _) c = (length (held_in b) < slots_of b) × (held_in c ≡ held_in b ++ x ∷ []) × (slots_of c ≡ slots_of b)
   RingPut b x (Err y) c = (length (held_in b) ≡ slots_of b) × (y ≡ x) × (c ≡ b)
