@@ -1,7 +1,9 @@
 #!/usr/bin/env python3
 """In answers and invariants, gives the toolchain's names for goals and steps the underscores that the Rust names in them have.
 
-usage: python3 tools/keep_rust_names.py CRATE..     in place, at the top; prints what it changed
+usage: python3 tools/keep_rust_names.py LIBRARY CRATE..     in place, at the top; prints what it changed
+
+LIBRARY is the toolchain's folder of sources, whose own names are left as they are.
 """
 import os
 import re
@@ -32,11 +34,11 @@ def library(kit):
     return found
 
 
-def main(crates):
+def main(source, crates):
     rust = set(WORDS)
     for p in walk("crates", ".rt"):
         rust |= set(re.findall(r"\b[a-z][a-z0-9]*(?:_[a-z0-9]+)+\b", read(p)))
-    lib = library("/opt/rattle/rattle")
+    lib = library(source)
 
     def keep(n):
         parts, out, i = n.split("-"), [], 0
@@ -71,4 +73,4 @@ def main(crates):
 
 
 if __name__ == "__main__":
-    sys.exit(main(sys.argv[1:]))
+    sys.exit(main(sys.argv[1], sys.argv[2:]))

@@ -1,7 +1,7 @@
 -- A floating slice keeps the laws of a service, and a tick brings its grants sooner.
 use Rattle.std.specs.Prelude.{◌≡◌, ℕ, ◌+◌, ◌-◌, ◌*◌, ◌<◌, ◌≤◌, Bool, true, false, cond, not, ◌&&◌, ◌||◌, ◌⊎◌, ◌==◌, ◌≢◌, nat_lt, refl}
-use Rattle.std.proofs.Common.{sym, ap, ◌∙◌, inl, inr, ⊎_elim, mul-add, mul-le-mul_left, mul-one, arith, lt-ltb, le-ltb}
-use Rattle.std.proofs.lemmas.Bool.Decides.{nat_tests}
+use Rattle.std.proofs.Common.{sym, ap, ◌∙◌, inl, inr, ⊎_elim, mul-add, mul-le-mul_left, mul-one, arith, lt-ltb, le-ltb, ltb-true, eq-eqb}
+use Rattle.std.proofs.lemmas.Bool.{cond-true, cond-false, ne_eqb, false≢true}
 use Rattle.servers.specs.Service.{Laws, Sooner, Ticks}
 use Rattle.servers.specs.Slices.{up, worst_of, pace_of}
 use Rattle.servers.specs.FloatService.{float_wait, float_worst, float_at, float_service, Floats}
@@ -14,13 +14,17 @@ module _ (p s t g : ℕ) where
   float_none = refl
 
   float_soon : (n : ℕ) → 0 < n → n ≤ s - g → float_wait p s t g n ≡ ((p - t) - (s - g)) + n
-  float_soon n some h = grind (arith, nat_tests)
+  float_soon n some h =
+      cond-false (n == 0) 0 (cond (nat_lt (s - g) n) ((p - t) + worst_of p s (n - (s - g))) (((p - t) - (s - g)) + n)) (ne_eqb n 0 (λ e. omega arith))
+      ∙ cond-false (nat_lt (s - g) n) ((p - t) + worst_of p s (n - (s - g))) (((p - t) - (s - g)) + n) (le-ltb (s - g) n h)
 
   float_late : (n : ℕ) → s - g < n → float_wait p s t g n ≡ (p - t) + worst_of p s (n - (s - g))
-  float_late n h = grind (arith, nat_tests)
+  float_late n h =
+      cond-false (n == 0) 0 (cond (nat_lt (s - g) n) ((p - t) + worst_of p s (n - (s - g))) (((p - t) - (s - g)) + n)) (ne_eqb n 0 (λ e. omega arith))
+      ∙ cond-true (nat_lt (s - g) n) ((p - t) + worst_of p s (n - (s - g))) (((p - t) - (s - g)) + n) (lt-ltb (s - g) n h)
 
 worst_some : (p s n : ℕ) → 0 < n → float_worst p s n ≡ worst_of p s n + (p - s)
-worst_some p s n h = grind (arith, nat_tests)
+worst_some p s n h = cond-false (n == 0) 0 (worst_of p s n + (p - s)) (ne_eqb n 0 (λ e. omega arith))
 
 module _ (p s : ℕ) (some : 0 < s) (fits : s ≤ p) where
   float_worst_rises : (m n : ℕ) → m ≤ n → float_worst p s m ≤ float_worst p s n
@@ -149,7 +153,7 @@ module _ (p s : ℕ) (some : 0 < s) (fits : s ≤ p) where
 
     passed_sooner : (s ≤ g) ⊎ (s - g ≢ p - t) → ((t + 1 < p) × (t' ≡ t + 1) × (g' ≡ g)) ⊎ ((p ≤ t + 1) × (t' ≡ 0) × (g' ≡ 0)) → (n : ℕ) → 0 < n → float_wait p s t' g' n + 1 ≤ float_wait p s t g n
     passed_sooner waits moves n k =
-        let slack : (s ≤ g) ⊎ (s - g < p - t) = ⊎_elim inl (λ ne. inr (grind arith)) waits in
+        let slack : (s ≤ g) ⊎ (s - g < p - t) = ⊎_elim inl (λ ne. inr (omega arith)) waits in
         ⊎_elim
         (λ m.
         let e = ap (λ x. float_wait p s x g' n) m.1 ∙ ap (λ x. float_wait p s (t + 1) x n) m.2 in
@@ -167,14 +171,22 @@ module _ (p s : ℕ) (some : 0 < s) (fits : s ≤ p) where
         moves
 
 pub says_granted : (g s : ℕ) (x : Bool) → true ≡ (nat_lt g s && x) → g < s
-says_granted g s x e = grind (arith, nat_tests)
+says_granted g s x e = ltb-true g s (both (nat_lt g s) e)
+  where
+    both : (b : Bool) → true ≡ (b && x) → b ≡ true
+    both true f = refl
+    both false f = sym f
 
 pub says_waits : (g s p t : ℕ) (c : Bool) → false ≡ (nat_lt g s && (not c || s - g == p - t)) → (s ≤ g) ⊎ (s - g ≢ p - t)
 says_waits g s p t c e =
     ⊎_elim
     (λ h. inl h)
-    (λ h. inr (λ q. grind (arith, nat_tests)))
+    (λ h. inr (λ q. false≢true (e ∙ ap (λ b. b && (not c || s - g == p - t)) (lt-ltb g s h) ∙ ap (λ b. not c || b) (eq-eqb (s - g) (p - t) q) ∙ either c)))
     (le_or_lt s g)
+  where
+    either : (b : Bool) → (not b || true) ≡ true
+    either true = refl
+    either false = refl
 
 pub float_moved_on : (t p t' g' new : ℕ) → t' ≡ cond (nat_lt (t + 1) p) (t + 1) 0 → g' ≡ cond (nat_lt (t + 1) p) new 0 → ((t + 1 < p) × (t' ≡ t + 1) × (g' ≡ new)) ⊎ ((p ≤ t + 1) × (t' ≡ 0) × (g' ≡ 0))
 float_moved_on t p t' g' new e f =

@@ -1,7 +1,7 @@
 -- A fixed slice keeps the laws of a service, and a tick brings its grants sooner.
-use Rattle.std.specs.Prelude.{◌≡◌, ℕ, ◌+◌, ◌-◌, ◌*◌, ◌<◌, ◌≤◌, Bool, true, false, cond, ◌⊎◌, nat_lt, refl}
+use Rattle.std.specs.Prelude.{◌≡◌, ℕ, ◌+◌, ◌-◌, ◌*◌, ◌<◌, ◌≤◌, Bool, true, false, cond, ◌⊎◌, ◌==◌, nat_lt, refl}
 use Rattle.std.proofs.Common.{sym, ap, ◌∙◌, inl, inr, ⊎_elim, mul_comm, mul-add, add-mul, mul_assoc, mul-le-mul_left, mul-zero, zero-mul, mul-one, arith, ltb-true, ltb-false, lt-ltb, le-ltb}
-use Rattle.std.proofs.lemmas.Bool.Decides.{nat_tests}
+use Rattle.std.proofs.lemmas.Bool.{cond-true, cond-false, ne_eqb}
 use Rattle.servers.specs.Service.{Laws, Sooner, Ticks}
 use Rattle.servers.specs.Slices.{up, fresh, wait_at, worst_of, pace_of}
 use Rattle.servers.specs.FixedService.{slice_service, fixed_service, Moves}
@@ -10,10 +10,18 @@ use Rattle.servers.specs.Rounding.{le_or_lt, up_near, up_least, up_from, up_rise
 
 module _ (p s at : ℕ) where
   pub wait_soon : (n : ℕ) → n ≤ s - at → wait_at p s at n ≡ n
-  wait_soon n h = grind (arith, nat_tests)
+  wait_soon n h =
+      ⊎_elim
+      (λ k. let z : n ≡ 0 = omega arith in rw z refl)
+      (λ k.
+      cond-false (n == 0) 0 (cond (nat_lt (s - at) n) ((p - at) + fresh p s (n - (s - at))) n) (ne_eqb n 0 (λ e. omega arith))
+      ∙ cond-false (nat_lt (s - at) n) ((p - at) + fresh p s (n - (s - at))) n (le-ltb (s - at) n h))
+      (le_or_lt n 0)
 
   pub wait_late : (n : ℕ) → s - at < n → wait_at p s at n ≡ (p - at) + fresh p s (n - (s - at))
-  wait_late n h = grind (arith, nat_tests)
+  wait_late n h =
+      cond-false (n == 0) 0 (cond (nat_lt (s - at) n) ((p - at) + fresh p s (n - (s - at))) n) (ne_eqb n 0 (λ e. omega arith))
+      ∙ cond-true (nat_lt (s - at) n) ((p - at) + fresh p s (n - (s - at))) n (lt-ltb (s - at) n h)
 
 module _ (p s : ℕ) (some : 0 < s) (fits : s ≤ p) where
   fresh_least : (n : ℕ) → n ≤ fresh p s n
