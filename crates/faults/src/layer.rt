@@ -1,6 +1,9 @@
 ghost use Rattle.std.specs.Prelude.{◌≡◌};
 ghost use Rattle.faults.specs.Words.{word_of};
 
+use crate::fault::Fault;
+use crate::reason::Reason;
+
 // Which part of the product refuses.
 #[derive(Clone, Copy, PartialEq, Eq, Debug)]
 pub enum Layer {
@@ -24,6 +27,18 @@ impl Layer {
             Layer::Runner => "runner",
             Layer::Belt => "belt",
             Layer::Table => "table",
+        }
+    }
+
+    // A refusal by this part; line and field are 0 where there is none.
+    pub fn refuses(self, reason: Reason, line: u32, field: u32) -> Fault
+        ensures { result ≡ record { reason = reason; layer = self; line = line; field = field } }
+    {
+        Fault {
+            reason,
+            layer: self,
+            line,
+            field,
         }
     }
 }
