@@ -15,7 +15,7 @@ impl<S: Drop> Stack<S> {
         if layer.period == 0 && layer.slice == 0 && layer.phase == 0 {
             return Ok(Stack::Bare(below));
         }
-        Ok(Stack::Layered(Inner::new(below, layer, line)?))
+        Inner::new(below, layer, line).map(Stack::Layered)
     }
 }
 
@@ -24,9 +24,9 @@ impl<S: Server> Server for Stack<S> {
 
     ghost steps = { StackSteps S.Server.steps };
 
-    ghost keeps = { stack_laws (record { service = S.Server.service; steps = S.Server.steps; keeps = S.Server.keeps; moves = S.Server.moves }) };
+    ghost keeps = { stack_laws S.Server.keeps };
 
-    ghost moves = { stack_moves (record { service = S.Server.service; steps = S.Server.steps; keeps = S.Server.keeps; moves = S.Server.moves }) };
+    ghost moves = { stack_moves S.Server.keeps S.Server.moves };
 
     fn tick(&mut self, claimed: bool) -> bool {
         match self {
