@@ -19,6 +19,7 @@ impl<S: Drop> Stack<S> {
     }
 }
 
+// A match a method: one helper for them would take a closure over `&dyn Server`, with a contract of its own, and be no plainer.
 impl<S: Server> Server for Stack<S> {
     ghost service = { stack_service S.Server.service };
 

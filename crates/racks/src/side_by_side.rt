@@ -26,6 +26,7 @@ fn in_second(split: usize, place: usize) -> Result<Option<usize>, Fault>
     Ok(place.checked_sub(split))
 }
 
+// A match a method: closures for both sides would name both calls as often, with a contract of their own, and be no plainer.
 impl<A: Rack, B: Rack> Rack for SideBySide<A, B> {
     ghost places = { λ s. places_beside (A.Rack.places s.first) (B.Rack.places s.second) };
 

@@ -1,6 +1,6 @@
 #![tactic(auto)]
 
-ghost use Rattle.std.specs.Prelude.{◌≡◌, ◌<◌, ◌≤◌, MatchResult, slice_index_or, vec_len};
+ghost use Rattle.std.specs.Prelude.{◌≡◌, ◌≤◌, MatchResult, Some, slice_get, vec_len};
 ghost use Rattle.faults.specs.Faults.{fault};
 ghost use Rattle.faults.specs.declared.layer.Layer.TheVariants.{Runner as AtRunner};
 ghost use Rattle.rows.specs.Rows.{row_service, RowSteps};
@@ -19,7 +19,7 @@ pub struct Row<S> {
 
 impl<S> Row<S> {
     fn server_at(&self, place: usize) -> Result<&S, Fault>
-        ensures { MatchResult result (λ s. (place < vec_len self.now.servers) × (s.now ≡ slice_index_or self.now.servers.items place s.now)) (λ e. (e ≡ fault 13 AtRunner 0 0) × (vec_len self.now.servers ≤ place)) }
+        ensures { MatchResult result (λ s. slice_get self.now.servers.items place ≡ Some s.now) (λ e. (e ≡ fault 13 AtRunner 0 0) × (vec_len self.now.servers ≤ place)) }
     {
         self.servers.get(place).ok_or_else(no_place)
     }
