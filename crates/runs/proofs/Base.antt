@@ -5,7 +5,7 @@ use mathlib.Core.List.{Memᴰ}
 use Rattle.std.proofs.lemmas.Bool.Decides.{nat_tests}
 use Rattle.flow.specs.Nets.{Net, Sound}
 use Rattle.runs.specs.States.{State, Finished, one, supplied, starts, left, ends, put_out, new_state, arrived, need_set, ticked}
-use Rattle.flow.proofs.Largest.{le_or}
+use Rattle.servers.specs.Rounding.{le_or_lt}
 use Rattle.flow.proofs.Bounds.{no_both}
 use Rattle.runs.proofs.Moves.{Supplied, supplied_decides, Move, rests, goes, begins, lacks, move, begun}
 
@@ -78,7 +78,7 @@ pub has_out : (g : Net) (s : State) (grants : ℕ → Bool) (v n : ℕ) → v < 
     Memᴰ {A = Finished} (record { task = v; firing = s.fired v; clock = s.clock + 1 }) (put_out g s grants n)
 unfolding put_out
 has_out g s grants v zero h q = absurd (omega arith)
-has_out g s grants v (suc n) h q = go (le_or n v) (λ l. has_out g s grants v n l q)
+has_out g s grants v (suc n) h q = go (le_or_lt n v) (λ l. has_out g s grants v n l q)
   where
     go : (n ≤ v) ⊎ (v < n) → (v < n → Memᴰ {A = Finished} (record { task = v; firing = s.fired v; clock = s.clock + 1 }) (put_out g s grants n)) →
         Memᴰ {A = Finished} (record { task = v; firing = s.fired v; clock = s.clock + 1 }) (put_out g s grants n ++ OneOut g s grants n)

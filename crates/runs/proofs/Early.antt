@@ -5,7 +5,7 @@ use mathlib.Core.List.{Memᴰ}
 use Rattle.std.proofs.lemmas.Bool.Decides.{nat_tests}
 use Rattle.flow.specs.Nets.{Net, Sound, Arrivals}
 use Rattle.flow.specs.Finish.{Feeds}
-use Rattle.flow.proofs.Largest.{le_or}
+use Rattle.servers.specs.Rounding.{le_or_lt}
 use Rattle.runs.specs.States.{State, Finished, one, starts, ends, put_out, new_state, arrived, need_set, ticked}
 use Rattle.runs.specs.Runs.{Said, Whole, Run, begin, refuses, arrives, sets, ticks, takes}
 use Rattle.runs.specs.Claims.{Ended, NotEarly}
@@ -83,7 +83,7 @@ module _ (n : Net) (sound : Sound n) where
     later (d, l, h) k = (d, omega arith, lift h)
 
     ended' : (v j : ℕ) → v < n.tasks → j < s.fired v + one (ends n s grants v) → (c : ℕ) × (c ≤ s.clock + 1) × Ended s' v j c
-    ended' v j h l = go (le_or (s.fired v) j)
+    ended' v j h l = go (le_or_lt (s.fired v) j)
       where
         ends_now : (b : Bool) → j < s.fired v + one b → s.fired v ≤ j → b ≡ true
         ends_now true _ _ = refl
@@ -98,7 +98,7 @@ module _ (n : Net) (sound : Sound n) where
 
     -- a firing that was begun before, or begins now with all that it takes
     was_or_now : (v j : ℕ) → v < n.tasks → j < begun s' v → (j < begun s v) ⊎ ((j ≡ begun s v) × Supplied n s v)
-    was_or_now v j h l = go (le_or (begun s v) j) (had n sound s grants old.base v h)
+    was_or_now v j h l = go (le_or_lt (begun s v) j) (had n sound s grants old.base v h)
       where
         go : (begun s v ≤ j) ⊎ (j < begun s v) → (one (starts n s grants v) ≡ 0) ⊎ ((one (starts n s grants v) ≡ 1) × Supplied n s v) → (j < begun s v) ⊎ ((j ≡ begun s v) × Supplied n s v)
         go (inr p) _ = inl p

@@ -6,7 +6,7 @@ use Rattle.flow.specs.Finish.{Finish, by_worst}
 use Rattle.runs.specs.States.{one_more}
 use Rattle.runs.proofs.Bare.{Waits, Ticked}
 use Rattle.runs.proofs.Bare as bare
-use Rattle.flow.proofs.Largest.{le_or}
+use Rattle.servers.specs.Rounding.{le_or_lt}
 use Rattle.flow.proofs.Bounds.{no_both}
 use Rattle.runs.proofs.Kept as kept
 use Rattle.runs.specs.Runs.{arrive, need, Said, clock_of, arrivals_of, Whole, why, Sweep, none, more, Run, begin, refuses, arrives, sets, ticks, takes}
@@ -66,7 +66,7 @@ module _ {R : Type 0} (places : R → ℕ) (service : R → ℕ → Service) (st
       step_on : Swept grants a n b → Swept grants a (suc n) c
       step_on old = record {
         stays = shows.stays b c n (get_or claims n false) (grants n) step ∙ old.stays;
-        ticked = λ v h i. by v i (le_or n v) h;
+        ticked = λ v h i. by v i (le_or_lt n v) h;
         rests = λ v h i. shows.others b c n (get_or claims n false) (grants n) step v (omega (arith, old.stays)) (λ e. omega arith) ∙ old.rests v (omega arith) i;
       }
         where

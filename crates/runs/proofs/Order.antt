@@ -4,7 +4,7 @@ use mathlib.Core.List.Memᴰ
 use mathlib.Core.List.{Memᴰ}
 use Rattle.std.proofs.lemmas.Bool.Decides.{nat_tests}
 use Rattle.flow.specs.Nets.{Net}
-use Rattle.flow.proofs.Largest.{le_or}
+use Rattle.servers.specs.Rounding.{le_or_lt}
 use Rattle.runs.specs.States.{State, Finished, one, ends, put_out, ticked}
 use Rattle.runs.specs.Runs.{Said, Whole, Run, begin, refuses, arrives, sets, ticks, takes}
 use Rattle.runs.specs.Claims.{firings_of, numbers, record_clock, Records}
@@ -62,7 +62,7 @@ module _ (n : Net) (s : State) (grants : ℕ → Bool) where
   put_one : (v m : ℕ) → v < m → firings_of v (put_out n s grants m) ≡ cond (ends n s grants v) (s.fired v ∷ []) []
   unfolding put_out
   put_one v zero h = absurd (omega arith)
-  put_one v (suc m) h = firings_append v (put_out n s grants m) (put_at m) ∙ go (le_or m v) (put_one v m)
+  put_one v (suc m) h = firings_append v (put_out n s grants m) (put_at m) ∙ go (le_or_lt m v) (put_one v m)
     where
       own : (b : Bool) → firings_of v (cond b (record { task = v; firing = s.fired v; clock = s.clock + 1 } ∷ []) []) ≡ cond b (s.fired v ∷ []) []
       own false = refl
