@@ -16,13 +16,14 @@ impl AnyKind {
         ensures { MakesAny kind settings line result }
     {
         match kind {
-            Kind::Own => Ok(AnyKind::Own(Own::new(settings, line)?)),
-            Kind::Fixed => Ok(AnyKind::Fixed(Fixed::new(settings, line)?)),
-            Kind::Float => Ok(AnyKind::Float(Float::new(settings, line)?)),
+            Kind::Own => Own::new(settings, line).map(AnyKind::Own),
+            Kind::Fixed => Fixed::new(settings, line).map(AnyKind::Fixed),
+            Kind::Float => Float::new(settings, line).map(AnyKind::Float),
         }
     }
 }
 
+// A match a method: one helper for them would take a closure over `&dyn Server`, with a contract of its own, and be no plainer.
 impl Server for AnyKind {
     ghost service = { any_service };
 
@@ -33,22 +34,10 @@ impl Server for AnyKind {
     ghost moves = { any_moves };
 
     fn tick(&mut self, claimed: bool) -> bool {
-        match *self {
-            AnyKind::Own(mut s) => {
-                let granted = s.tick(claimed);
-                *self = AnyKind::Own(s);
-                granted
-            }
-            AnyKind::Fixed(mut s) => {
-                let granted = s.tick(claimed);
-                *self = AnyKind::Fixed(s);
-                granted
-            }
-            AnyKind::Float(mut s) => {
-                let granted = s.tick(claimed);
-                *self = AnyKind::Float(s);
-                granted
-            }
+        match self {
+            AnyKind::Own(s) => s.tick(claimed),
+            AnyKind::Fixed(s) => s.tick(claimed),
+            AnyKind::Float(s) => s.tick(claimed),
         }
     }
 
