@@ -1,4 +1,3 @@
 pub mod Turned
-pub mod Rings
 pub mod Belts
 pub mod Histories

@@ -1,10 +1,79 @@
-ghost use Rattle.belt.specs.Rings.{Sound};
+ghost use Rattle.belt.specs.Turned.{Sound};
 
-use crate::ring::Ring;
+use crate::returned::Returned;
+use faults::layer::Layer;
+use faults::reason::Reason;
 
 // A queue over slots that the caller lends: it hands out first what was put in first.
+// The slots are a ring: `len` of them hold items, the oldest at `head`, round to the one before it.
 #[derive(Drop)]
 pub struct Belt<'a, T> {
-    pub(crate) ring: Ring<'a, T>,
-    ghost sound: { Sound ring },
+    slots: &'a mut [Option<T>],
+    head: usize,
+    len: usize,
+    ghost sound: { Sound slots.now head len },
+}
+
+impl<'a, T: Drop> Belt<'a, T> {
+    ghost use Rattle.std.specs.Prelude.{◌≡◌, ◌+◌, [], length};
+    ghost use Rattle.belt.specs.Belts.{contents, room, Put, Took};
+    ghost use Rattle.belt.specs.Histories.{InOrder};
+
+    // An empty belt, whatever the slots hold. From then on, what is handed out is in order a front of what was accepted, and the rest is inside.
+    pub fn new(slots: &'a mut [Option<T>]) -> Belt<'a, T>
+        ensures empty { contents result ≡ [] }
+        ensures room { room result ≡ length slots.old }
+        ensures history { InOrder result }
+    {
+        slots.fill_with(|| None);
+        Belt {
+            slots,
+            head: 0,
+            len: 0,
+        }
+    }
+
+    // How many items are inside.
+    pub fn len(&self) -> usize
+        ensures { result ≡ length (contents self.now) }
+    {
+        self.len
+    }
+
+    // How many slots are free.
+    pub fn free(&self) -> usize
+        ensures { result + length (contents self.now) ≡ room self.now }
+    {
+        self.slots.len() - self.len
+    }
+
+    // One item more; refused where every slot is taken, and then the caller has the item back.
+    pub fn put(&mut self, item: T) -> Result<(), Returned<T>>
+        ensures { Put self.old item result self.new }
+    {
+        if self.len == self.slots.len() {
+            let fault = Layer::Belt.refuses(Reason::SlotsTaken, 0, 0);
+            return Err(Returned { fault, item });
+        }
+        let free = (self.head + self.len) % self.slots.len();
+        // Reborrowed: a write as `self.slots[free]` would owe the invariant at once, before the count follows.
+        let slots = &mut *self.slots;
+        slots[free] = Some(item);
+        self.len += 1;
+        Ok(())
+    }
+
+    // The oldest item, or none from an empty belt.
+    pub fn take(&mut self) -> Option<T>
+        ensures { Took self.old result self.new }
+    {
+        if self.len == 0 {
+            return None;
+        }
+        let slots = &mut *self.slots;
+        let item = slots[self.head].take();
+        self.head = (self.head + 1) % self.slots.len();
+        self.len -= 1;
+        item
+    }
 }

@@ -5,3 +5,4 @@ pub mod Legal
 pub mod Lines
 pub mod Graphs
 pub mod Racked
+pub mod Figured

@@ -1,5 +1,6 @@
 #![tactic(auto)]
 
+pub mod figures;
 pub mod graph;
 pub mod graph_new;
 mod legal;

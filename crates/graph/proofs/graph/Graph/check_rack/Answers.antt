@@ -5,6 +5,6 @@ use Rattle.faults.specs.declared.layer.Layer.TheVariants.{Graph}
 use Rattle.graph.specs.Racked.{above}
 use Rattle.graph.proofs.graph.Graph.check_rack.Goals as goal
 
-pub returns-then-not-all_told : goal.returns-then-not-all_told
-returns-then-not-all_told g c =
+pub returns-then-is_err : goal.returns-then-is_err
+returns-then-is_err g c =
     above c.loop-v.v (c.refused.ensures ∙ ap (λ l. fault 12 Graph l 0) c.line.ensures) (search rules) (search rules) c.loop-v.invariant (search rules)
