@@ -1,11 +1,11 @@
 -- A field more, as a word or a number text.
-use Rattle.std.proofs.Common.{◌≡◌, ℕ, ◌<◌, Bool, true, false, cond, length, refl, arith, ◌∷◌}
+use Rattle.std.proofs.Common.{◌≡◌, ◌<◌, Bool, true, false, cond, length, refl, arith}
 use Rattle.std.proofs.lemmas.Bool.Decides.{nat_tests}
 use Rattle.lexer.specs.declared.token.Shape.{Shape}
 use Rattle.lexer.specs.declared.token.Shape.TheVariants.{Word, Number}
 use Rattle.lexer.specs.declared.token.Token.{Token}
 use Rattle.lexer.specs.declared.fields.Fields.{Fields}
-use Rattle.lexer.specs.Left.{fields_left, Took, NextBy}
+use Rattle.lexer.specs.Left.{Took, NextBy}
 use Rattle.lexer.proofs.Cuts.{first_field}
 use Rattle.lexer.proofs.fields.Fields.next.Goals as goal
 
