@@ -1,5 +1,4 @@
 #![tactic(auto)]
 
-mod figures;
 mod lines;
 pub mod report;

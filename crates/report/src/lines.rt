@@ -1,39 +1,31 @@
-ghost use Rattle.std.specs.Prelude.{[], ◌∷◌, ◌++◌, decimal};
+ghost use Rattle.std.specs.Prelude.{◌++◌};
 ghost use Rattle.std.specs.List.{flat_map};
 ghost use Rattle.faults.specs.Faults.{fault_line};
-ghost use Rattle.lexer.specs.Text.{end, line_of};
+ghost use Rattle.lexer.specs.Text.{end};
 ghost use Rattle.texts.specs.Puts.{Puts};
 ghost use Rattle.sheets.specs.Reads.{entries, page};
 ghost use Rattle.report.specs.Reports.{figures_line, figures_table};
 ghost use Rattle.report.specs.Figured.{Ready};
 
-use crate::figures::{Figures, figures_at};
 use faults::fault::Fault;
+use graph::figures::figures_at;
 use sheets::sheet::Sheet;
 use std::alloc::AllocError;
-use texts::{put, put_field};
+use texts::line::{Cell, put_line};
+use texts::put;
 
 // The line of a fault.
 pub(crate) fn put_fault(out: &mut Vec<u8>, fault: Fault) -> Result<(), AllocError>
     ensures { Puts out.old (fault_line fault ++ end) result out.new }
 {
-    put(out, b"refused ")?;
-    put(out, fault.layer.word().as_bytes())?;
-    put_field(out, u64::from(fault.reason.number()))?;
-    put_field(out, u64::from(fault.line))?;
-    put_field(out, u64::from(fault.field))?;
-    put(out, b"\n")
-}
-
-// The line of a task's figures.
-fn put_figures(out: &mut Vec<u8>, name: &[u8], figures: Figures) -> Result<(), AllocError>
-    ensures { Puts out.old (line_of (name.now ∷ decimal figures.lead ∷ decimal figures.pace ∷ decimal figures.alone ∷ [])) result out.new }
-{
-    put(out, name)?;
-    put_field(out, figures.lead)?;
-    put_field(out, figures.pace)?;
-    put_field(out, figures.alone)?;
-    put(out, b"\n")
+    let cells = [
+        Cell::Word(b"refused"),
+        Cell::Word(fault.layer.word().as_bytes()),
+        Cell::Number(u64::from(fault.reason.number())),
+        Cell::Number(u64::from(fault.line)),
+        Cell::Number(u64::from(fault.field)),
+    ];
+    put_line(out, &cells)
 }
 
 // The lines of all tasks.
@@ -42,10 +34,14 @@ fn put_tasks(out: &mut Vec<u8>, sheet: &Sheet) -> Result<(), AllocError>
     ensures { Puts out.old (flat_map figures_line (entries sheet.now)) result out.new }
 {
     for (place, task) in sheet.tasks.iter().enumerate() {
-        match figures_at(&sheet.rack, place, task.time) {
-            Ok(figures) => put_figures(out, task.name.as_bytes(), figures)?,
-            Err(_) => unreachable(),
-        }
+        let figures = figures_at(&sheet.rack, place, task.time).unwrap();
+        let cells = [
+            Cell::Word(task.name.as_bytes()),
+            Cell::Number(figures.lead),
+            Cell::Number(figures.pace),
+            Cell::Number(figures.alone),
+        ];
+        put_line(out, &cells)?;
     }
     Ok(())
 }

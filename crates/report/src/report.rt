@@ -1,24 +1,24 @@
-ghost use Rattle.report.specs.Reports.{Reported};
+ghost use Rattle.std.specs.Prelude.{List, ℕ};
+ghost use Rattle.texts.specs.Puts.{Puts};
+ghost use Rattle.report.specs.Reports.{Reports, Reported};
 
 use crate::lines::{put_fault, put_table};
 use reader::read::read;
 use reader::room::Room;
 use std::alloc::AllocError;
+use texts::all_or_nothing;
 
 // Appends what is printed of a sheet's text. Where the buffer's room does not suffice and no memory is to be had, the buffer is left as it was.
 pub fn report(out: &mut Vec<u8>, text: &[u8], room: Room) -> Result<(), AllocError>
     ensures { Reported text.now out.old result out.new }
 {
-    let before = out.len();
-    let put = match read(text, room) {
-        Ok(sheet) => put_table(out, &sheet),
-        Err(fault) => put_fault(out, fault),
-    };
-    match put {
-        Ok(()) => Ok(()),
-        Err(none) => {
-            out.truncate(before);
-            Err(none)
+    let put_report = |out: &mut Vec<u8>| -> Result<(), AllocError>
+        ensures { (bs : List ℕ) × Reports text.entry.now bs × Puts out.old bs result out.new }
+    {
+        match read(text, room) {
+            Ok(sheet) => put_table(out, &sheet),
+            Err(fault) => put_fault(out, fault),
         }
-    }
+    };
+    all_or_nothing(out, put_report)
 }

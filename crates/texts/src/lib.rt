@@ -1,8 +1,13 @@
 #![tactic(auto)]
 
-ghost use Rattle.std.specs.Prelude.{◌∷◌, decimal};
-ghost use Rattle.texts.specs.Puts.{Puts};
+ghost use Rattle.std.specs.Prelude.{decimal};
+ghost use Rattle.std.specs.List.{flat_map};
+ghost use Rattle.std.specs.Fn.{FnOnceReturnsAtMut};
+ghost use Rattle.texts.specs.Puts.{Puts, PutsAs, Undone};
 
+pub mod line;
+
+use itoa::Buffer;
 use std::alloc::AllocError;
 
 // Appends the bytes.
@@ -12,28 +17,40 @@ pub fn put(out: &mut Vec<u8>, bytes: &[u8]) -> Result<(), AllocError>
     out.extend_from_slice(bytes)
 }
 
-// Appends n in decimal. The digits come last to first, so they are laid out in an array from its end.
+// Appends n in decimal. By `itoa`, since a `write!` may fail for any reason, and this fails only where the buffer has no room.
 pub fn put_number(out: &mut Vec<u8>, n: u64) -> Result<(), AllocError>
     ensures { Puts out.old (decimal n) result out.new }
 {
-    // 2^64 has 20 digits
-    let mut digits = [0u8; 20];
-    let mut first: usize = 20;
-    let mut rest = n;
-    while rest >= 10 {
-        first -= 1;
-        digits[first] = b'0' + (rest % 10) as u8;
-        rest /= 10;
-    }
-    first -= 1;
-    digits[first] = b'0' + rest as u8;
-    put(out, &digits[first..])
+    put(out, Buffer::new().format(n).as_bytes())
 }
 
-// The number as a field that does not open its line: behind a space.
-pub fn put_field(out: &mut Vec<u8>, n: u64) -> Result<(), AllocError>
-    ensures { Puts out.old (32 ∷ decimal n) result out.new }
+// Appends the text of each item, in order, where `put_item` appends that of one.
+pub fn put_each<T, F: Fn(&mut Vec<u8>, &T) -> Result<(), AllocError>>(
+    out: &mut Vec<u8>,
+    items: &[T],
+    put_item: F,
+) -> Result<(), AllocError>
+    requires { F.IsAlwaysCallable put_item }
+    ensures { (text : _) → PutsAs F.Fn put_item text → Puts out.old (flat_map text items.now) result out.new }
 {
-    put(out, b" ")?;
-    put_number(out, n)
+    for item in items {
+        put_item(out, item)?;
+    }
+    Ok(())
+}
+
+// Appends all that `append` does, or nothing: where it fails, the buffer's contents are those of before.
+pub fn all_or_nothing<F: FnOnce(&mut Vec<u8>) -> Result<(), AllocError>>(
+    out: &mut Vec<u8>,
+    append: F,
+) -> Result<(), AllocError>
+    requires { F.IsAlwaysCallable append }
+    ensures { (w : _) × FnOnceReturnsAtMut F.FnOnce append out.old result w × Undone out.old w result out.new }
+{
+    let before = out.len();
+    let done = append(out);
+    if done.is_err() {
+        out.truncate(before);
+    }
+    done
 }
