@@ -1,4 +1,4 @@
-ghost use Rattle.std.specs.Prelude.{◌≡◌, true, map, Decides};
+ghost use Rattle.std.specs.Prelude.{◌≡◌, ◌↔◌, map, IsTrue};
 ghost use Rattle.cells.specs.Bytes.{well};
 ghost use Rattle.lexer.specs.Text.{fields};
 ghost use Rattle.headings.specs.Columns.{column_word};
@@ -41,7 +41,7 @@ impl Table {
 
 // Whether the fields of a line name these columns, in order.
 fn names_columns(line: &[u8], columns: &[Column]) -> bool
-    ensures { Decides result (fields line.now ≡ map column_word columns.now) }
+    ensures { IsTrue result ↔ (fields line.now ≡ map column_word columns.now) }
 {
     let mut rest = Fields::new(line, 0);
     for column in columns {
@@ -54,7 +54,7 @@ fn names_columns(line: &[u8], columns: &[Column]) -> bool
 
 // Whether a line in order is the heading of this table.
 pub fn is_heading(line: &[u8], table: Table) -> bool
-    ensures { well line.now ≡ true → Decides result (line.now ≡ heading table) }
+    ensures { IsTrue (well line.now) → (IsTrue result ↔ (line.now ≡ heading table)) }
 {
     names_columns(line, table.columns())
 }
