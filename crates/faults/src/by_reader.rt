@@ -9,10 +9,5 @@ use crate::reason::Reason;
 pub fn refused(reason: Reason, line: u32, field: u32) -> Fault
     ensures { result ≡ record { reason = reason; layer = AtReader; line = line; field = field } }
 {
-    Fault {
-        reason,
-        layer: Layer::Reader,
-        line,
-        field,
-    }
+    Layer::Reader.refuses(reason, line, field)
 }

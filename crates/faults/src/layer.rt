@@ -1,5 +1,9 @@
-ghost use Rattle.std.specs.Prelude.{◌≡◌};
+ghost use Rattle.std.specs.Prelude.{◌≡◌, Some};
 ghost use Rattle.faults.specs.Words.{word_of};
+
+use crate::fault::Fault;
+use crate::reason::Reason;
+use std::fmt;
 
 // Which part of the product refuses.
 #[derive(Clone, Copy, PartialEq, Eq, Debug)]
@@ -25,5 +29,25 @@ impl Layer {
             Layer::Belt => "belt",
             Layer::Table => "table",
         }
+    }
+
+    // A refusal by this part; line and field are 0 where there is none.
+    pub fn refuses(self, reason: Reason, line: u32, field: u32) -> Fault
+        ensures { result ≡ record { reason = reason; layer = self; line = line; field = field } }
+    {
+        Fault {
+            reason,
+            layer: self,
+            line,
+            field,
+        }
+    }
+}
+
+impl fmt::Display for Layer {
+    ghost output = { λ layer. Some (word_of layer) };
+
+    fn fmt<W: fmt::Write>(&self, f: &mut fmt::Formatter<W>) -> fmt::Result {
+        f.write_str(self.word())
     }
 }
