@@ -6,7 +6,6 @@ ghost use Rattle.sheets.specs.Checks.{taken, index_of, task_checks};
 ghost use Rattle.sheet_lines.specs.Places.{Finds};
 
 use cells::cell::name_in;
-use faults::by_reader::refused;
 use faults::fault::Fault;
 use faults::reason::Reason;
 use lexer::token::Token;
@@ -31,5 +30,5 @@ pub(crate) fn place_of(tasks: &[SheetTask], t: Token<'_>) -> Result<usize, Fault
     ensures { Meets result (task_checks (names (map entry tasks.now)) t.entry.line t.entry.field t.entry.part.now) (λ v. v ≡ index_of (names (map entry tasks.now)) t.entry.part.now) }
 {
     let name = name_in(t)?;
-    find(tasks, name).ok_or(refused(Reason::UnknownTask, t.line, t.field))
+    find(tasks, name).ok_or(t.refused(Reason::UnknownTask))
 }
