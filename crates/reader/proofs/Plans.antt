@@ -1,5 +1,5 @@
 -- The graph and the rack of a sheet whose lines are in order.
-use Rattle.std.proofs.Common.{◌≡◌, ℕ, zero, suc, ◌<◌, List, [], ◌∷◌, map, length, IsErrAnd, Err, vec_items, vec_len, Result, sym, refl, ap, ◌∙◌, subst, arith}
+use Rattle.std.proofs.Common.{◌≡◌, ℕ, ◌<◌, List, [], ◌∷◌, map, length, IsErrAnd, Err, vec_items, vec_len, Result, sym, ap, ◌∙◌, subst, arith}
 use Rattle.std.proofs.lemmas.List.{length-map}
 use Rattle.std.proofs.lemmas.Result.{err_from_is_err_and}
 use Rattle.faults.specs.Faults.{fault}
@@ -26,6 +26,7 @@ use Rattle.sheets.specs.Legal.{InOrder, Legal, TaskTold, entry_at}
 use Rattle.sheets.specs.Laws.{Written, Refused, ring, figure}
 use Rattle.sheets.specs.Reads.{entries, page, Accepted, Reads}
 use Rattle.sheets.proofs.Servers.{all_made_length, offered_at}
+use Rattle.sheets.proofs.Orders.{task_time}
 use Rattle.sheets.proofs.Decides.{reads_is}
 
 -- a graph that is refused
@@ -39,11 +40,6 @@ pub graph_refused : (t : List ℕ) (p : Page) (f : Fault) (goal : ℕ) (ts : Lis
 graph_refused t p f goal ts es is o a b c k =
     graph_refused_at t p f is o (subst (λ g. graphs.Refuses g (map task_of p.tasks) p.edges origin.Sheet f) a (subst (λ x. graphs.Refuses goal x p.edges origin.Sheet f) b (subst (λ x. graphs.Refuses goal ts x origin.Sheet f) c k)))
 
-time_at : (es : List Entry) (v : ℕ) → v < length es → (task_at (map task_of es) v).time ≡ (entry_at es v).time
-time_at [] v h = absurd (omega arith)
-time_at (e ∷ es) zero h = refl
-time_at (e ∷ es) (suc v) h = time_at es v (omega arith)
-
 -- the graph has the tasks of the page, and the rack their servers
 pub record Fitted (p : Page) (g : Graph) (ss : List (Stack AnyKind)) : Type 0 where
   pub is_graph : graphs.IsGraph p.goal (map task_of p.tasks) p.edges origin.Sheet g
@@ -56,7 +52,7 @@ graph_tasks p g ss k = g.tasks.ok.0 ∙ ap length k.is_graph.tasks_are ∙ lengt
 same_task : (p : Page) (g : Graph) (ss : List (Stack AnyKind)) (v : ℕ) → Fitted p g ss → v < length p.tasks → (Told (row_service (stack_service any_service) ss v) (task_at (vec_items g.tasks) v).time → TaskTold p.tasks v) × (TaskTold p.tasks v → Told (row_service (stack_service any_service) ss v) (task_at (vec_items g.tasks) v).time)
 same_task p g ss v k h =
     let a = offered_at p.tasks ss v k.made h in
-    let b = ap (λ ts. (task_at ts v).time) k.is_graph.tasks_are ∙ time_at p.tasks v h in
+    let b = ap (λ ts. (task_at ts v).time) k.is_graph.tasks_are ∙ task_time p.tasks v h in
     ((λ x. subst (λ s. Told s (entry_at p.tasks v).time) a (subst (Told (row_service (stack_service any_service) ss v)) b x)), (λ x. subst (Told (row_service (stack_service any_service) ss v)) (sym b) (subst (λ s. Told s (entry_at p.tasks v).time) (sym a) x)))
 
 -- a rack that is refused

@@ -31,22 +31,9 @@ goal_clear : (n : ℕ) → 1 ≤ n → n ≤ 999999999 → first (goal_checks (l
 goal_clear n least most =
     let l = line_of (goal_cells n) in
     let b = goal_back n most in
-    all_none (goal_checks l) (
-      there l b.fine,
-      (
-        not_from_true (well l) b.fine,
-        (
-          b.full,
-          (
-            parted_at 1 l (goal_cells n) b.cut b.filled refl,
-            (
-              number_at 1 999999999 n (field 0 l) (ap (λ x. get_or x 0 []) b.cut) (omega arith) least most,
-              tt,
-            ),
-          ),
-        ),
-      ),
-    )
+    let shape = parted_at 1 l (goal_cells n) b.cut b.filled refl in
+    let goal = number_at 1 999999999 n (field 0 l) (ap (λ x. get_or x 0 []) b.cut) (omega arith) least most in
+    all_none (goal_checks l) (there l b.fine, (not_from_true (well l) b.fine, (b.full, (shape, (goal, tt)))))
 
 -- The tasks.
 

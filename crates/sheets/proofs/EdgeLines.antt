@@ -51,16 +51,10 @@ name_of ns v a h = All-get_or (λ n. named n ≡ true) ns v [] h a
 -- what an edge between tasks of these names is written as
 pub edge_back : (ns : List (List ℕ)) (e : Edge) → AllByRecursion (λ n. named n ≡ true) ns → Joins (length ns) e → LineBack (edge_cells ns e)
 edge_back ns e a j =
-    line_is (get_or ns e.from []) (get_or ns e.to [] ∷ decimal e.tokens ∷ []) (
-      name_cell (get_or ns e.from []) (name_of ns e.from a j.from),
-      (
-        name_cell (get_or ns e.to []) (name_of ns e.to a j.to),
-        (
-          decimal_cell e.tokens (omega (arith, j.tokens)),
-          tt,
-        ),
-      ),
-    )
+    let from = name_cell (get_or ns e.from []) (name_of ns e.from a j.from) in
+    let to = name_cell (get_or ns e.to []) (name_of ns e.to a j.to) in
+    let tokens = decimal_cell e.tokens (omega (arith, j.tokens)) in
+    line_is (get_or ns e.from []) (get_or ns e.to [] ∷ decimal e.tokens ∷ []) (from, (to, (tokens, tt)))
 
 pub edge_same : (ns : List (List ℕ)) (e : Edge) → AllByRecursion (λ n. named n ≡ true) ns → Distinct ns → Joins (length ns) e → edge_of ns (edge_line ns e) ≡ e
 edge_same ns e a d j =
@@ -75,31 +69,10 @@ edge_clear ns k line e a j room =
     let l = edge_line ns e in
     let b = edge_back ns e a j in
     let c = b.cut in
-    all_none (edge_checks ns k line l) (
-      not_from_true (well l) b.fine,
-      (
-        b.full,
-        (
-          lt-leb 48 k room,
-          (
-            parted_at 3 l (edge_cells ns e) c b.filled refl,
-            (
-              ap (λ x. not (named (get_or x 0 []))) c ∙ not_from_true (named (get_or ns e.from [])) (name_of ns e.from a j.from),
-              (
-                ap (λ x. not (taken ns (get_or x 0 []))) c ∙ not_from_true (taken ns (get_or ns e.from [])) (taken_at ns e.from j.from),
-                (
-                  ap (λ x. not (named (get_or x 1 []))) c ∙ not_from_true (named (get_or ns e.to [])) (name_of ns e.to a j.to),
-                  (
-                    ap (λ x. not (taken ns (get_or x 1 []))) c ∙ not_from_true (taken ns (get_or ns e.to [])) (taken_at ns e.to j.to),
-                    (
-                      number_at 0 255 e.tokens (field 2 l) (ap (λ x. get_or x 2 []) c) (omega arith) (omega arith) j.tokens,
-                      tt,
-                    ),
-                  ),
-                ),
-              ),
-            ),
-          ),
-        ),
-      ),
-    )
+    let shape = parted_at 3 l (edge_cells ns e) c b.filled refl in
+    let from = ap (λ x. not (named (get_or x 0 []))) c ∙ not_from_true (named (get_or ns e.from [])) (name_of ns e.from a j.from) in
+    let from_there = ap (λ x. not (taken ns (get_or x 0 []))) c ∙ not_from_true (taken ns (get_or ns e.from [])) (taken_at ns e.from j.from) in
+    let to = ap (λ x. not (named (get_or x 1 []))) c ∙ not_from_true (named (get_or ns e.to [])) (name_of ns e.to a j.to) in
+    let to_there = ap (λ x. not (taken ns (get_or x 1 []))) c ∙ not_from_true (taken ns (get_or ns e.to [])) (taken_at ns e.to j.to) in
+    let tokens = number_at 0 255 e.tokens (field 2 l) (ap (λ x. get_or x 2 []) c) (omega arith) (omega arith) j.tokens in
+    all_none (edge_checks ns k line l) (not_from_true (well l) b.fine, (b.full, (lt-leb 48 k room, (shape, (from, (from_there, (to, (to_there, (tokens, tt)))))))))

@@ -73,14 +73,17 @@ pub record InRange (low : ℕ) (s : Settings) : Type 0 where
   pub slice : s.slice ≤ 65535
   pub phase : s.phase ≤ 65534
 
+fixed_range : (s : Settings) → LegalFixed s → InRange 1 s
+fixed_range s h = record { long = omega arith; period = omega arith; some = omega arith; slice = omega arith; phase = omega arith }
+
 server_range : (k : Kind) (s : Settings) → LegalAny k s → InRange 1 s
 server_range Own s h = record { long = omega arith; period = omega arith; some = omega arith; slice = omega arith; phase = omega arith }
-server_range Fixed s h = record { long = omega arith; period = omega arith; some = omega arith; slice = omega arith; phase = omega arith }
-server_range Float s h = record { long = omega arith; period = omega arith; some = omega arith; slice = omega arith; phase = omega arith }
+server_range Fixed s h = fixed_range s h
+server_range Float s h = fixed_range s (h.0, omega arith)
 
 layer_range : (s : Settings) → NoLayer s ⊎ LegalFixed s → InRange 0 s
 layer_range s (inl h) = record { long = omega arith; period = omega arith; some = omega arith; slice = omega arith; phase = omega arith }
-layer_range s (inr h) = record { long = omega arith; period = omega arith; some = omega arith; slice = omega arith; phase = omega arith }
+layer_range s (inr h) = let r = fixed_range s h in record { long = omega arith; period = r.period; some = omega arith; slice = r.slice; phase = r.phase }
 
 flag_small : (b : Bool) → cond b 1 0 ≤ 1
 flag_small true = omega arith
@@ -95,54 +98,34 @@ pub entry_back : (e : Entry) → Fine e → LineBack (entry_cells e)
 entry_back e f =
     let s = server_range e.kind e.slice f.legal.server in
     let t = layer_range e.layer f.legal.layer in
-    line_is e.name (decimal e.time ∷ kind_word e.kind ∷ (settings_cells e.slice ++ (settings_cells e.layer ++ (decimal (cond e.inlet 1 0) ∷ [])))) (
-      name_cell e.name f.legal.name,
-      (
-        decimal_cell e.time (omega (arith, f.most)),
-        (
-          kind_cell e.kind,
-          (
-            decimal_cell e.slice.period (omega (arith, s.period)),
-            (
-              decimal_cell e.slice.slice (omega (arith, s.slice)),
-              (
-                decimal_cell e.slice.phase (omega (arith, s.phase)),
-                (
-                  decimal_cell e.layer.period (omega (arith, t.period)),
-                  (
-                    decimal_cell e.layer.slice (omega (arith, t.slice)),
-                    (
-                      decimal_cell e.layer.phase (omega (arith, t.phase)),
-                      (
-                        decimal_cell (cond e.inlet 1 0) (omega (arith, flag_small e.inlet)),
-                        tt,
-                      ),
-                    ),
-                  ),
-                ),
-              ),
-            ),
-          ),
-        ),
-      ),
-    )
+    let name = name_cell e.name f.legal.name in
+    let time = decimal_cell e.time (omega (arith, f.most)) in
+    let period = decimal_cell e.slice.period (omega (arith, s.period)) in
+    let slice = decimal_cell e.slice.slice (omega (arith, s.slice)) in
+    let phase = decimal_cell e.slice.phase (omega (arith, s.phase)) in
+    let inner = decimal_cell e.layer.period (omega (arith, t.period)) in
+    let inslice = decimal_cell e.layer.slice (omega (arith, t.slice)) in
+    let inphase = decimal_cell e.layer.phase (omega (arith, t.phase)) in
+    let inlet = decimal_cell (cond e.inlet 1 0) (omega (arith, flag_small e.inlet)) in
+    line_is e.name (decimal e.time ∷ kind_word e.kind ∷ (settings_cells e.slice ++ (settings_cells e.layer ++ (decimal (cond e.inlet 1 0) ∷ []))))
+    (name, (time, (kind_cell e.kind, (period, (slice, (phase, (inner, (inslice, (inphase, (inlet, tt))))))))))
 
 pub entry_same : (e : Entry) → Fine e → entry_of (entry_line e) ≡ e
 entry_same e f =
-    let c = (entry_back e f).cut in
     let s = server_range e.kind e.slice f.legal.server in
     let t = layer_range e.layer f.legal.layer in
-    let name : field 0 (entry_line e) ≡ e.name = ap (λ x. get_or x 0 []) c in
-    let time = value_at e.time (field 1 (entry_line e)) (ap (λ x. get_or x 1 []) c) (omega (arith, f.most)) in
-    let kind = kind_back e.kind (field 2 (entry_line e)) (ap (λ x. get_or x 2 []) c) in
-    let period = value_at e.slice.period (field 3 (entry_line e)) (ap (λ x. get_or x 3 []) c) (omega (arith, s.period)) in
-    let slice = value_at e.slice.slice (field 4 (entry_line e)) (ap (λ x. get_or x 4 []) c) (omega (arith, s.slice)) in
-    let phase = value_at e.slice.phase (field 5 (entry_line e)) (ap (λ x. get_or x 5 []) c) (omega (arith, s.phase)) in
-    let inner = value_at e.layer.period (field 6 (entry_line e)) (ap (λ x. get_or x 6 []) c) (omega (arith, t.period)) in
-    let inslice = value_at e.layer.slice (field 7 (entry_line e)) (ap (λ x. get_or x 7 []) c) (omega (arith, t.slice)) in
-    let inphase = value_at e.layer.phase (field 8 (entry_line e)) (ap (λ x. get_or x 8 []) c) (omega (arith, t.phase)) in
-    let inlet = ap (λ n. eqb n 1) (value_at (cond e.inlet 1 0) (field 9 (entry_line e)) (ap (λ x. get_or x 9 []) c) (omega (arith, flag_small e.inlet))) ∙ flag_back e.inlet in
-    λ i. record { name = name i; time = time i; kind = kind i; slice = record { period = period i; slice = slice i; phase = phase i }; layer = record { period = inner i; slice = inslice i; phase = inphase i }; inlet = inlet i }
+    let l = entry_line e in
+    let at = λ (k : ℕ). ap (λ x. get_or x k []) (entry_back e f).cut in
+    let time = value_at e.time (field 1 l) (at 1) (omega (arith, f.most)) in
+    let kind = kind_back e.kind (field 2 l) (at 2) in
+    let period = value_at e.slice.period (field 3 l) (at 3) (omega (arith, s.period)) in
+    let slice = value_at e.slice.slice (field 4 l) (at 4) (omega (arith, s.slice)) in
+    let phase = value_at e.slice.phase (field 5 l) (at 5) (omega (arith, s.phase)) in
+    let inner = value_at e.layer.period (field 6 l) (at 6) (omega (arith, t.period)) in
+    let inslice = value_at e.layer.slice (field 7 l) (at 7) (omega (arith, t.slice)) in
+    let inphase = value_at e.layer.phase (field 8 l) (at 8) (omega (arith, t.phase)) in
+    let inlet = ap (λ n. eqb n 1) (value_at (cond e.inlet 1 0) (field 9 l) (at 9) (omega (arith, flag_small e.inlet))) ∙ flag_back e.inlet in
+    λ i. record { name = at 0 i; time = time i; kind = kind i; slice = record { period = period i; slice = slice i; phase = phase i }; layer = record { period = inner i; slice = inslice i; phase = inphase i }; inlet = inlet i }
 
 pub entry_clear : (ns : List (List ℕ)) (line : ℕ) (e : Entry) → Fine e → taken ns e.name ≡ false → length ns < 16 → first (entry_checks ns line (entry_line e)) ≡ None
 entry_clear ns line e f free room =
@@ -151,50 +134,19 @@ entry_clear ns line e f free room =
     let c = b.cut in
     let s = server_range e.kind e.slice f.legal.server in
     let t = layer_range e.layer f.legal.layer in
-    let server = (legal_server_decides e).1 (f.legal.server, f.legal.layer) in
-    all_none (entry_checks ns line l) (
-      not_from_true (well l) b.fine,
-      (
-        lt-leb 16 (length ns) room,
-        (
-          parted_at 10 l (entry_cells e) c b.filled refl,
-          (
-            ap (λ x. not (named (get_or x 0 []))) c ∙ not_from_true (named e.name) f.legal.name,
-            (
-              number_at 1 65535 e.time (field 1 l) (ap (λ x. get_or x 1 []) c) (omega arith) f.least f.most,
-              (
-                kind_at e.kind (field 2 l) (ap (λ x. get_or x 2 []) c),
-                (
-                  number_at 1 65535 e.slice.period (field 3 l) (ap (λ x. get_or x 3 []) c) (omega arith) s.long s.period,
-                  (
-                    number_at 1 65535 e.slice.slice (field 4 l) (ap (λ x. get_or x 4 []) c) (omega arith) s.some s.slice,
-                    (
-                      number_at 0 65534 e.slice.phase (field 5 l) (ap (λ x. get_or x 5 []) c) (omega arith) (omega arith) s.phase,
-                      (
-                        number_at 0 65535 e.layer.period (field 6 l) (ap (λ x. get_or x 6 []) c) (omega arith) t.long t.period,
-                        (
-                          number_at 0 65535 e.layer.slice (field 7 l) (ap (λ x. get_or x 7 []) c) (omega arith) t.some t.slice,
-                          (
-                            number_at 0 65534 e.layer.phase (field 8 l) (ap (λ x. get_or x 8 []) c) (omega arith) (omega arith) t.phase,
-                            (
-                              number_at 0 1 (cond e.inlet 1 0) (field 9 l) (ap (λ x. get_or x 9 []) c) (omega arith) (omega arith) (flag_small e.inlet),
-                              (
-                                ap (λ x. taken ns (get_or x 0 [])) c ∙ free,
-                                (
-                                  ap (λ x. not (legal_server x)) (entry_same e f) ∙ not_from_true (legal_server e) server,
-                                  tt,
-                                ),
-                              ),
-                            ),
-                          ),
-                        ),
-                      ),
-                    ),
-                  ),
-                ),
-              ),
-            ),
-          ),
-        ),
-      ),
-    )
+    let at = λ (k : ℕ). ap (λ x. get_or x k []) b.cut in
+    let shape = parted_at 10 l (entry_cells e) c b.filled refl in
+    let name = ap (λ x. not (named (get_or x 0 []))) c ∙ not_from_true (named e.name) f.legal.name in
+    let time = number_at 1 65535 e.time (field 1 l) (at 1) (omega arith) f.least f.most in
+    let kind = kind_at e.kind (field 2 l) (at 2) in
+    let period = number_at 1 65535 e.slice.period (field 3 l) (at 3) (omega arith) s.long s.period in
+    let slice = number_at 1 65535 e.slice.slice (field 4 l) (at 4) (omega arith) s.some s.slice in
+    let phase = number_at 0 65534 e.slice.phase (field 5 l) (at 5) (omega arith) (omega arith) s.phase in
+    let inner = number_at 0 65535 e.layer.period (field 6 l) (at 6) (omega arith) t.long t.period in
+    let inslice = number_at 0 65535 e.layer.slice (field 7 l) (at 7) (omega arith) t.some t.slice in
+    let inphase = number_at 0 65534 e.layer.phase (field 8 l) (at 8) (omega arith) (omega arith) t.phase in
+    let inlet = number_at 0 1 (cond e.inlet 1 0) (field 9 l) (at 9) (omega arith) (omega arith) (flag_small e.inlet) in
+    let new = ap (λ x. taken ns (get_or x 0 [])) c ∙ free in
+    let server = ap (λ x. not (legal_server x)) (entry_same e f) ∙ not_from_true (legal_server e) ((legal_server_decides e).1 (f.legal.server, f.legal.layer)) in
+    all_none (entry_checks ns line l)
+    (not_from_true (well l) b.fine, (lt-leb 16 (length ns) room, (shape, (name, (time, (kind, (period, (slice, (phase, (inner, (inslice, (inphase, (inlet, (new, (server, tt)))))))))))))))

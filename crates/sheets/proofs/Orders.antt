@@ -10,7 +10,8 @@ use Rattle.sheets.specs.Legal.{LegalEntry, InOrder, Distinct, no_entry}
 use Rattle.sheets.proofs.EntryLines.{Fine}
 use Rattle.sheets.proofs.EdgeLines.{Joins}
 
-task_time : (ts : List Entry) (v : ℕ) → v < length ts → (get_or (map task_of ts) v no_task).time ≡ (get_or ts v no_entry).time
+-- a graph keeps a task's time
+pub task_time : (ts : List Entry) (v : ℕ) → v < length ts → (get_or (map task_of ts) v no_task).time ≡ (get_or ts v no_entry).time
 task_time ts v h = ap (λ t. t.time) (get_or-map task_of ts v no_entry no_task h)
 
 pub entries_fine : (p : Page) → InOrder p → AllByRecursion Fine p.tasks
