@@ -1,8 +1,11 @@
 -- Numbers and their digits.
-use Rattle.std.proofs.Common.{◌≡◌, ℕ, ◌+◌, ◌-◌, ◌*◌, ◌^◌, ◌<◌, ◌≤◌, true, not, ◌||◌, eqb, List, [], ◌∷◌, length, get_or, decimal, sym, refl, subst, inl, inr, arith, rules}
+use Rattle.std.proofs.Common.{Result, Ok, ◌≡◌, ℕ, ◌^◌, ◌<◌, ◌≤◌, true, not, ◌||◌, eqb, List, [], ◌∷◌, length, get_or, decimal, sym, refl, subst, inl, inr, arith, rules}
 use Rattle.std.specs.Int.{IsInRange}
-use Rattle.std.specs.Str.{all_ascii_digits}
-use Rattle.std.proofs.lemmas.Str.Parse.{IsNumeralModel, numerals_by_fold, tells_all_ascii_digits, digits_value_short, digit_at}
+use Rattle.std.specs.Str.{IsUtf8, IsAscii, all_ascii_digits}
+use Rattle.std.specs.Str.Parse.{ParsesUnsigned}
+use Rattle.std.proofs.lemmas.Str.{IsUtf8-from_ascii}
+use Rattle.std.proofs.lemmas.Str.Ascii.{IsAscii-nil, IsAscii-cons}
+use Rattle.std.proofs.lemmas.Str.Parse.{parse_gives, IsNumeralModel, numerals_by_fold, tells_all_ascii_digits, digits_value_short, digit_at}
 use Rattle.std.proofs.lemmas.Fmt.{decimal-digits_value, digits_value-decimal, digits_decimal, length-decimal-le, decimal_nonempty, first_decimal, decimal_digit}
 use Rattle.std.proofs.lemmas.Bool.Decides.{nat_tests}
 use Rattle.std.proofs.lemmas.Bool.{and_parts, and_from, or_right, le-leb, cases_eq}
@@ -10,10 +13,6 @@ use Rattle.cells.specs.Values.{read_on, value, numeral}
 
 pub own : IsNumeralModel (λ ds. all_ascii_digits ds ≡ true) value
 own = numerals_by_fold _ tells_all_ascii_digits read_on (search rules)
-
-pub grows : (n : ℕ) (ds : List ℕ) → n ≤ read_on n ds
-grows n [] = omega arith
-grows n (d ∷ ds) = omega (arith, grows (n * 10 + (d - 48)) ds)
 
 pub small : (ds : List ℕ) → all_ascii_digits ds ≡ true → length ds ≤ 9 → value ds < 10 ^ 9
 small ds p h = digits_value_short own ds 9 p h
@@ -44,3 +43,18 @@ decimal_is n h =
       | inr ne ↦ let f = first_decimal n (omega arith) fits in grind (arith, nat_tests)
     ] in
     (and_from _ _ d (and_from _ _ (le-leb 1 _ some) (and_from _ _ (le-leb _ 9 short) lead)), digits_value-decimal own n fits)
+
+digits_text : (bs : List ℕ) → all_ascii_digits bs ≡ true → IsAscii bs
+digits_text [] p = IsAscii-nil
+digits_text (b ∷ bs) p = let a = and_parts _ (all_ascii_digits bs) p in IsAscii-cons b bs (grind (arith, nat_tests)) (digits_text bs a.1)
+
+-- a numeral is a text
+pub numeral_text : (bs : List ℕ) → numeral bs ≡ true → IsUtf8 bs
+numeral_text bs p = IsUtf8-from_ascii bs (digits_text bs (and_parts (all_ascii_digits bs) _ p).0)
+
+-- and it is read as its value
+pub numeral_read : {E : Type 0} (bs : List ℕ) (r : Result ℕ E) → numeral bs ≡ true → ParsesUnsigned 32 10 bs r → r ≡ Ok (value bs)
+numeral_read bs r p h =
+    let n = numeral_is bs p in
+    let some : 0 < length bs = grind (arith, nat_tests) in
+    parse_gives own 32 bs r h (and_parts (all_ascii_digits bs) _ p).0 some (omega (arith, n.1))

@@ -1,5 +1,5 @@
 -- Numbers, names and kinds as fields write them.
-use Rattle.std.specs.Prelude.{◌≡◌, ℕ, ◌+◌, ◌-◌, ◌*◌, Bool, cond, not, ◌&&◌, ◌||◌, List, [], ◌∷◌, length, Some, None, Option, ◌==◌, ◌≢◌, nat_le, slice_index}
+use Rattle.std.specs.Prelude.{ℕ, ◌+◌, ◌-◌, ◌*◌, Bool, cond, not, ◌&&◌, ◌||◌, List, [], ◌∷◌, length, ◌==◌, nat_le, slice_index}
 use Rattle.std.specs.Str.{bytes_eq, all_ascii_digits}
 use Rattle.kinds.specs.Words.{kind_word}
 use Rattle.kinds.specs.declared.kind.Kind.{Kind}
@@ -35,8 +35,3 @@ a_kind bs = bytes_eq bs (kind_word Own) || (bytes_eq bs (kind_word Fixed) || byt
 -- The kind whose word this is; float where it is none.
 abbrev pub kind_of : List ℕ → Kind
 kind_of bs = cond (bytes_eq bs (kind_word Own)) Own (cond (bytes_eq bs (kind_word Fixed)) Fixed Float)
-
--- The kind whose word this is, or none.
-abbrev pub KindOf : List ℕ → Option Kind → Type 0
-KindOf bs (Some k) = bs ≡ kind_word k
-KindOf bs None = (k : Kind) → bs ≢ kind_word k

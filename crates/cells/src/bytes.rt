@@ -1,90 +1,49 @@
-ghost use Rattle.std.specs.Prelude.{◌≡◌, ◌≤◌, true, ◌||◌, length, ◌==◌};
-ghost use Rattle.std.specs.Str.{all_ascii_digits};
-ghost use Rattle.cells.specs.Bytes.{letter, plain, plains};
-ghost use Rattle.cells.specs.Values.{value, numeral, named, KindOf};
+ghost use Rattle.std.specs.Prelude.{◌≡◌, true, false, ◌||◌, ◌==◌, MatchOption};
+ghost use Rattle.cells.specs.Bytes.{plain};
+ghost use Rattle.cells.specs.Values.{value, numeral, named};
 
-use kinds::kind::Kind;
-
-fn is_letter(b: u8) -> bool
-    ensures { result ≡ letter b }
-{
-    b >= b'a' && b <= b'z'
-}
+use std::str::from_utf8;
 
 // A letter or a digit.
-fn is_plain(b: u8) -> bool
-    ensures { result ≡ plain b }
+fn is_plain(b: &u8) -> bool
+    ensures { result ≡ plain b.now }
 {
-    is_letter(b) || (b >= b'0' && b <= b'9')
+    b.is_ascii_lowercase() || b.is_ascii_digit()
 }
 
 // A byte that may stand in a line before its end.
-pub(crate) fn is_allowed(b: u8) -> bool
-    ensures { result ≡ (plain b || b == 32) }
+pub(crate) fn is_allowed(b: &u8) -> bool
+    ensures { result ≡ (plain b.now || b.now == 32) }
 {
-    is_plain(b) || b == b' '
-}
-
-fn all_plain(b: &[u8]) -> bool
-    ensures { result ≡ plains b.now }
-{
-    for x in b {
-        if !is_plain(*x) {
-            return false;
-        }
-    }
-    true
-}
-
-fn all_digits(b: &[u8]) -> bool
-    ensures { result ≡ all_ascii_digits b.now }
-{
-    for x in b {
-        if *x < b'0' || *x > b'9' {
-            return false;
-        }
-    }
-    true
-}
-
-// The number that digits write.
-pub(crate) fn value_of(b: &[u8]) -> u32
-    requires digits { all_ascii_digits b.now ≡ true }
-    requires short { length b.now ≤ 9 }
-    ensures { result ≡ value b.now }
-{
-    let mut n: u32 = 0;
-    for x in b {
-        n = n * 10 + u32::from(*x - b'0');
-    }
-    n
+    is_plain(b) || *b == b' '
 }
 
 // 1 to 9 digits without a leading zero.
-pub(crate) fn is_numeral(b: &[u8]) -> bool
-    ensures { result ≡ numeral b.now }
+fn is_numeral(part: &[u8]) -> bool
+    ensures { result ≡ numeral part.now }
 {
-    all_digits(b) && b.len() >= 1 && b.len() <= 9 && (b[0] != b'0' || b.len() == 1)
+    match part {
+        [b'1'..=b'9', ..] => part.len() <= 9 && part.iter().all(u8::is_ascii_digit),
+        _ => matches!(part, [b'0']),
+    }
+}
+
+// The number that a numeral writes.
+pub(crate) fn number_of(part: &[u8]) -> Option<u32>
+    ensures { MatchOption result (numeral part.now ≡ false) (λ n. (numeral part.now ≡ true) × (n ≡ value part.now)) }
+{
+    if !is_numeral(part) {
+        return None;
+    }
+    from_utf8(part).ok()?.parse().ok()
 }
 
 // 1 to 12 letters and digits, a letter first.
-pub(crate) fn is_named(b: &[u8]) -> bool
-    ensures { result ≡ named b.now }
+pub(crate) fn is_named(part: &[u8]) -> bool
+    ensures { result ≡ named part.now }
 {
-    if b.len() == 0 {
-        return false;
-    }
-    is_letter(b[0]) && b.len() <= 12 && all_plain(b)
-}
-
-// The kind that a word names.
-pub(crate) fn kind_of(word: &[u8]) -> Option<Kind>
-    ensures { KindOf word.now result }
-{
-    match word {
-        b"own" => Some(Kind::Own),
-        b"fixed" => Some(Kind::Fixed),
-        b"float" => Some(Kind::Float),
-        _ => None,
+    match part {
+        [b'a'..=b'z', ..] => part.len() <= 12 && part.iter().all(is_plain),
+        _ => false,
     }
 }

@@ -2,8 +2,7 @@ ghost use Rattle.std.specs.Prelude.{◌≡◌, not, [], ◌∷◌};
 ghost use Rattle.cells.specs.Checks.{bad, Meets};
 ghost use Rattle.cells.specs.Values.{value, number, named, a_kind, kind_of};
 
-use crate::bytes::{is_named, is_numeral, kind_of, value_of};
-use faults::by_reader::refused;
+use crate::bytes::{is_named, number_of};
 use faults::fault::Fault;
 use faults::reason::Reason;
 use kinds::kind::Kind;
@@ -13,13 +12,9 @@ use lexer::token::Token;
 pub fn number_in(t: Token<'_>, low: u32, high: u32) -> Result<u32, Fault>
     ensures { Meets result (bad (not (number low high t.entry.part.now)) 5 t.entry.line t.entry.field ∷ []) (λ n. n ≡ value t.entry.part.now) }
 {
-    if is_numeral(t.part) {
-        let n = value_of(t.part);
-        if low <= n && n <= high {
-            return Ok(n);
-        }
-    }
-    Err(refused(Reason::NumberRange, t.line, t.field))
+    number_of(t.part)
+        .filter(|n| low <= *n && *n <= high)
+        .ok_or(t.refused(Reason::NumberRange))
 }
 
 // The name in a field.
@@ -29,7 +24,7 @@ pub fn name_in<'a>(t: Token<'a>) -> Result<&'a [u8], Fault>
     if is_named(t.part) {
         Ok(t.part)
     } else {
-        Err(refused(Reason::Word, t.line, t.field))
+        Err(t.refused(Reason::Word))
     }
 }
 
@@ -37,8 +32,6 @@ pub fn name_in<'a>(t: Token<'a>) -> Result<&'a [u8], Fault>
 pub fn kind_in(t: Token<'_>) -> Result<Kind, Fault>
     ensures { Meets result (bad (not (a_kind t.entry.part.now)) 6 t.entry.line t.entry.field ∷ []) (λ k. k ≡ kind_of t.entry.part.now) }
 {
-    match kind_of(t.part) {
-        Some(k) => Ok(k),
-        None => Err(refused(Reason::Word, t.line, t.field)),
-    }
+    let refused = t.refused(Reason::Word);
+    Kind::try_from(t.part).map_err(|_| refused)
 }

@@ -5,7 +5,7 @@ use crate::fault::Fault;
 use std::alloc::AllocError;
 
 // What a call that allocates answers where it fails: a refusal, or want of memory, which is no refusal and has no number.
-#[derive(Clone, Copy)]
+#[derive(Clone, Copy, PartialEq, Eq, Debug)]
 pub enum Error {
     Refused(Fault),
     Memory,

@@ -1,8 +1,9 @@
-ghost use Rattle.std.specs.Prelude.{◌≡◌};
+ghost use Rattle.std.specs.Prelude.{◌≡◌, Some};
 ghost use Rattle.faults.specs.Words.{word_of};
 
 use crate::fault::Fault;
 use crate::reason::Reason;
+use std::fmt;
 
 // Which part of the product refuses.
 #[derive(Clone, Copy, PartialEq, Eq, Debug)]
@@ -40,5 +41,13 @@ impl Layer {
             line,
             field,
         }
+    }
+}
+
+impl fmt::Display for Layer {
+    ghost output = { λ layer. Some (word_of layer) };
+
+    fn fmt<W: fmt::Write>(&self, f: &mut fmt::Formatter<W>) -> fmt::Result {
+        f.write_str(self.word())
     }
 }

@@ -3,6 +3,5 @@
 pub mod by_reader;
 pub mod error;
 pub mod fault;
-pub mod fault_display;
 pub mod layer;
 pub mod reason;

@@ -14,6 +14,7 @@ any_laws (Fixed s) = fixed_laws s
 any_laws (Float s) = float_laws s
 
 pub any_moves : (a t : AnyKind) (c g : Bool) → AnySteps a c g t → Ticks (any_service a) g (any_service t)
-any_moves (Own a) t c g m = rw m.1 (own_moves a m.0 c g m.2)
-any_moves (Fixed a) t c g m = rw m.1 (fixed_moves a m.0 c g m.2)
-any_moves (Float a) t c g m = rw m.1 (float_moves a m.0 c g m.2)
+any_moves (Own a) (Own b) c g m = own_moves a b c g m
+any_moves (Fixed a) (Fixed b) c g m = fixed_moves a b c g m
+any_moves (Float a) (Float b) c g m = float_moves a b c g m
+any_moves _ _ c g m = absurd m

@@ -1,14 +1,11 @@
 -- A server of any kind: what it offers, its ticks, and how it is made.
-use Rattle.std.specs.Prelude.{◌≡◌, ℕ, Bool, Result}
+use Rattle.std.specs.Prelude.{ℕ, Bool, ⊤, Result}
 use Rattle.faults.specs.declared.fault.Fault.{Fault}
 use Rattle.servers.specs.Service.{Service}
 use Rattle.servers.specs.OwnService.{own_service, OwnSteps}
 use Rattle.servers.specs.FixedService.{fixed_service, Moves}
 use Rattle.servers.specs.FloatService.{float_service, Floats}
 use Rattle.servers.specs.Settings.{Makes, LegalOwn, LegalFixed, IsFixed, LegalFloat, IsFloat}
-use Rattle.servers.specs.declared.own.Own as own
-use Rattle.servers.specs.declared.fixed.Fixed as fixed
-use Rattle.servers.specs.declared.float.Float as float
 use Rattle.servers.specs.declared.settings.Settings.{Settings}
 use Rattle.kinds.specs.declared.kind.Kind as kind
 use Rattle.kinds.specs.declared.any_kind.AnyKind.{AnyKind}
@@ -21,9 +18,10 @@ any_service (Float s) = float_service s
 
 -- A tick is one of the server's own, and leaves the kind as it is.
 abbrev pub AnySteps : AnyKind → Bool → Bool → AnyKind → Type 0
-AnySteps (Own a) c g t = (b : own.Own) × (t ≡ Own b) × OwnSteps a c g b
-AnySteps (Fixed a) c g t = (b : fixed.Fixed) × (t ≡ Fixed b) × Moves a c g b
-AnySteps (Float a) c g t = (b : float.Float) × (t ≡ Float b) × Floats a c g b
+AnySteps (Own a) c g (Own b) = OwnSteps a c g b
+AnySteps (Fixed a) c g (Fixed b) = Moves a c g b
+AnySteps (Float a) c g (Float b) = Floats a c g b
+AnySteps _ _ _ _ = ⊥
 
 abbrev pub LegalAny : kind.Kind → Settings → Type 0
 LegalAny kind.TheVariants.Own s = LegalOwn s
@@ -31,9 +29,10 @@ LegalAny kind.TheVariants.Fixed s = LegalFixed s
 LegalAny kind.TheVariants.Float s = LegalFloat s
 
 abbrev pub IsAny : kind.Kind → Settings → AnyKind → Type 0
-IsAny kind.TheVariants.Own s a = (o : own.Own) × (a ≡ Own o)
-IsAny kind.TheVariants.Fixed s a = (f : fixed.Fixed) × (a ≡ Fixed f) × IsFixed s f
-IsAny kind.TheVariants.Float s a = (f : float.Float) × (a ≡ Float f) × IsFloat s f
+IsAny kind.TheVariants.Own s (Own o) = ⊤
+IsAny kind.TheVariants.Fixed s (Fixed f) = IsFixed s f
+IsAny kind.TheVariants.Float s (Float f) = IsFloat s f
+IsAny _ _ _ = ⊥
 
 abbrev pub MakesAny : kind.Kind → Settings → ℕ → Result AnyKind Fault → Type 0
 MakesAny k s = Makes (LegalAny k s) (IsAny k s)

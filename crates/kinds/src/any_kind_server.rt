@@ -16,9 +16,9 @@ impl AnyKind {
         ensures { MakesAny kind settings line result }
     {
         match kind {
-            Kind::Own => Ok(AnyKind::Own(Own::new(settings, line)?)),
-            Kind::Fixed => Ok(AnyKind::Fixed(Fixed::new(settings, line)?)),
-            Kind::Float => Ok(AnyKind::Float(Float::new(settings, line)?)),
+            Kind::Own => Own::new(settings, line).map(AnyKind::Own),
+            Kind::Fixed => Fixed::new(settings, line).map(AnyKind::Fixed),
+            Kind::Float => Float::new(settings, line).map(AnyKind::Float),
         }
     }
 }
@@ -33,22 +33,10 @@ impl Server for AnyKind {
     ghost moves = { any_moves };
 
     fn tick(&mut self, claimed: bool) -> bool {
-        match *self {
-            AnyKind::Own(mut s) => {
-                let granted = s.tick(claimed);
-                *self = AnyKind::Own(s);
-                granted
-            }
-            AnyKind::Fixed(mut s) => {
-                let granted = s.tick(claimed);
-                *self = AnyKind::Fixed(s);
-                granted
-            }
-            AnyKind::Float(mut s) => {
-                let granted = s.tick(claimed);
-                *self = AnyKind::Float(s);
-                granted
-            }
+        match self {
+            AnyKind::Own(s) => s.tick(claimed),
+            AnyKind::Fixed(s) => s.tick(claimed),
+            AnyKind::Float(s) => s.tick(claimed),
         }
     }
 

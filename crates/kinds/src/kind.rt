@@ -1,5 +1,5 @@
 ghost use Rattle.std.specs.Prelude.{◌≡◌};
-ghost use Rattle.kinds.specs.Words.{kind_word};
+ghost use Rattle.kinds.specs.Words.{kind_word, Names};
 
 // The kinds of server that a sheet can name.
 #[derive(Clone, Copy, PartialEq, Eq, Debug)]
@@ -8,6 +8,10 @@ pub enum Kind {
     Fixed,
     Float,
 }
+
+// A word that names no kind.
+#[derive(Clone, Copy, PartialEq, Eq, Debug)]
+pub struct UnknownKind;
 
 impl Kind {
     // The word by which a sheet names it.
@@ -18,6 +22,22 @@ impl Kind {
             Kind::Own => "own",
             Kind::Fixed => "fixed",
             Kind::Float => "float",
+        }
+    }
+}
+
+// The kind that a word names.
+impl TryFrom<&[u8]> for Kind {
+    type Error = UnknownKind;
+
+    ghost try_from_gives = { λ word r. Names word.now r };
+
+    fn try_from(word: &[u8]) -> Result<Kind, UnknownKind> {
+        match word {
+            b"own" => Ok(Kind::Own),
+            b"fixed" => Ok(Kind::Fixed),
+            b"float" => Ok(Kind::Float),
+            _ => Err(UnknownKind),
         }
     }
 }

@@ -1,43 +1,38 @@
 -- A text cut after its first line, and a line after its first field.
-use Rattle.std.proofs.Common.{◌≡◌, ℕ, suc, ◌<◌, ◌≤◌, Bool, true, false, cond, ◌||◌, eqb, List, [], ◌∷◌, length, get_or, take, drop, sym, refl, ap, inl, inr, arith}
-use Rattle.std.proofs.lemmas.Bool.Decides.{nat_tests}
-use Rattle.std.proofs.lemmas.Bool.{cases_eq}
-use Rattle.std.proofs.lemmas.List.{drop_all, length-drop}
-use Rattle.lexer.specs.Text.{lines, fields, onto}
-use Rattle.lexer.specs.Spans.{span, run}
+use Rattle.std.proofs.Common.{◌≡◌, ℕ, suc, ◌+◌, ◌<◌, min, Bool, true, false, cond, not, eqb, List, [], ◌∷◌, ◌++◌, length, take, drop, refl, ap, ◌∙◌, one-add, add-one, arith}
+use Rattle.std.specs.List.{IsFirstMatchOrLen, position_or_len, before_first, after_first}
+use Rattle.std.proofs.lemmas.List.Sums.{position_or_len_is}
+use Rattle.std.proofs.Math.Seq.{take-append_seam}
+use Rattle.std.proofs.lemmas.Grind.{common_steps}
+use Rattle.lexer.specs.Text.{separates, lines, fields, onto}
 
-lines_step : (c : Bool) (b : ℕ) (bs : List ℕ) → (0 < length bs → lines bs ≡ take (span bs) bs ∷ lines (drop (span bs) bs)) → cond c ((b ∷ []) ∷ lines bs) (onto b (lines bs)) ≡ take (cond c 1 (suc (span bs))) (b ∷ bs) ∷ lines (drop (cond c 1 (suc (span bs))) (b ∷ bs))
+abbrev ends : ℕ → Bool
+ends b = eqb b 10
+
+lines_step : (c : Bool) (b : ℕ) (bs : List ℕ) → (0 < length bs → lines bs ≡ take (suc (position_or_len ends bs)) bs ∷ lines (drop (suc (position_or_len ends bs)) bs)) → cond c ((b ∷ []) ∷ lines bs) (onto b (lines bs)) ≡ take (suc (cond (not c) (suc (position_or_len ends bs)) 0)) (b ∷ bs) ∷ lines (drop (suc (cond (not c) (suc (position_or_len ends bs)) 0)) (b ∷ bs))
 lines_step true b bs more = refl
 lines_step false b [] more = refl
 lines_step false b (x ∷ xs) more = ap (onto b) (more (omega arith))
 
-pub lines_cut : (bs : List ℕ) → 0 < length bs → lines bs ≡ take (span bs) bs ∷ lines (drop (span bs) bs)
+lines_cut : (bs : List ℕ) → 0 < length bs → lines bs ≡ take (suc (position_or_len ends bs)) bs ∷ lines (drop (suc (position_or_len ends bs)) bs)
 lines_cut [] h = absurd (omega arith)
-lines_cut (b ∷ bs) h = lines_step (eqb b 10) b bs (lines_cut bs)
+lines_cut (b ∷ bs) h = rw (one-add (position_or_len ends bs)) (lines_step (ends b) b bs (lines_cut bs))
 
-pub first_line : (bs : List ℕ) → take (span bs) bs ≡ get_or (lines bs) 0 []
-first_line [] = refl
-first_line (b ∷ bs) = sym (ap (λ ls. get_or ls 0 []) (lines_cut (b ∷ bs) (omega arith)))
+-- the first line goes to the first line end, which it has, or to the text's end
+pub first_line : (bs line rest : List ℕ) (i : ℕ) → bs ≡ line ++ rest → length line ≡ min (i + 1) (length bs) → IsFirstMatchOrLen ends bs i → 0 < length bs → lines bs ≡ line ∷ lines (drop (length line) bs)
+first_line bs line rest i parts long first some =
+    let at : position_or_len ends bs ≡ min i (length bs) = position_or_len_is ends bs (min i (length bs)) 0 (omega arith) (λ k h. first.0 k 0 (omega arith) (omega arith)) (λ h. let same : min i (length bs) ≡ i = omega arith in rw same (first.1 (omega arith) 0)) in
+    let seam = take-append_seam line rest in
+    let front : take (suc (position_or_len ends bs)) bs ≡ line = grind (arith, common_steps) in
+    let back : drop (suc (position_or_len ends bs)) bs ≡ drop (length line) bs = grind (arith, common_steps) in
+    lines_cut bs some ∙ (λ j. front j ∷ lines (back j))
 
-pub other_lines : (bs : List ℕ) → lines (drop (span bs) bs) ≡ drop 1 (lines bs)
-other_lines [] = refl
-other_lines (b ∷ bs) = sym (ap (drop 1) (lines_cut (b ∷ bs) (omega arith)))
-
-fields_step : (c : Bool) (b : ℕ) (bs : List ℕ) → (0 < length bs → fields bs ≡ take (run bs) bs ∷ fields (drop (suc (run bs)) bs)) → cond c ([] ∷ fields bs) (onto b (fields bs)) ≡ take (cond c 0 (suc (run bs))) (b ∷ bs) ∷ fields (drop (suc (cond c 0 (suc (run bs)))) (b ∷ bs))
+fields_step : (c : Bool) (b : ℕ) (bs : List ℕ) → (0 < length bs → fields bs ≡ before_first separates bs ∷ fields (after_first separates bs)) → cond c ([] ∷ fields bs) (onto b (fields bs)) ≡ take (cond (not c) (suc (position_or_len separates bs)) 0) (b ∷ bs) ∷ fields (drop (suc (cond (not c) (suc (position_or_len separates bs)) 0)) (b ∷ bs))
 fields_step true b bs more = refl
 fields_step false b [] more = refl
-fields_step false b (x ∷ xs) more = ap (onto b) (more (omega arith))
+fields_step false b (x ∷ xs) more = rw (← add-one (position_or_len separates (x ∷ xs))) (ap (onto b) (more (omega arith)))
 
-pub fields_cut : (bs : List ℕ) → 0 < length bs → fields bs ≡ take (run bs) bs ∷ fields (drop (suc (run bs)) bs)
-fields_cut [] h = absurd (omega arith)
-fields_cut (b ∷ bs) h = fields_step (eqb b 10 || eqb b 32) b bs (fields_cut bs)
-
-some_lines : (bs : List ℕ) → 0 < length bs → 0 < length (lines bs)
-some_lines bs h = omega (arith, ap length (lines_cut bs h))
-
-pub done_lines : (t : List ℕ) (at : ℕ) → at ≤ length t → eqb at (length t) ≡ eqb (length (lines (drop at t))) 0
-done_lines t at h =
-    elim (cases_eq at (length t)) [
-      | inl e ↦ let none = ap length (ap lines (drop_all at t (omega arith))) in grind (arith, nat_tests)
-      | inr ne ↦ let some = some_lines (drop at t) (omega (arith, length-drop at t)) in grind (arith, nat_tests)
-    ]
+-- the first field goes to the first separator, or to the line's end
+pub first_field : (bs : List ℕ) → 0 < length bs → fields bs ≡ before_first separates bs ∷ fields (after_first separates bs)
+first_field [] h = absurd (omega arith)
+first_field (b ∷ bs) h = rw (add-one, one-add (position_or_len separates bs)) (fields_step (separates b) b bs (first_field bs))

@@ -1,5 +1,5 @@
 -- What is left to read, and what is read next.
-use Rattle.std.specs.Prelude.{◌≡◌, ℕ, ◌+◌, ◌-◌, ◌^◌, min, List, [], ◌∷◌, drop}
+use Rattle.std.specs.Prelude.{◌≡◌, ℕ, ◌+◌, ◌-◌, ◌^◌, min, List, [], ◌∷◌}
 use Rattle.lexer.specs.declared.token.Token.{Token}
 use Rattle.lexer.specs.declared.token.Shape.{Shape}
 use Rattle.lexer.specs.declared.token.Shape.TheVariants.{Word, Number, LineEnd}
@@ -9,10 +9,10 @@ use Rattle.lexer.specs.Text.{lines, fields}
 use Rattle.lexer.specs.Shapes.{shape_of}
 
 abbrev pub lines_left : Lines → List (List ℕ)
-lines_left l = lines (drop l.at l.text.now)
+lines_left l = lines l.rest.now
 
 abbrev pub fields_left : Fields → List (List ℕ)
-fields_left f = fields (drop f.at f.text.now)
+fields_left f = fields f.rest.now
 
 -- The token is the first field that is left, at its place.
 pub record Took (f : Fields) (t : Token) (g : Fields) : Type 0 where

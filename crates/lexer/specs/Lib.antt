@@ -1,4 +1,3 @@
 pub mod Text
-pub mod Spans
 pub mod Shapes
 pub mod Left

@@ -1,5 +1,5 @@
 -- The lines of a text, each with its line end, the fields of a line, and how they are put together.
-use Rattle.std.specs.Prelude.{ℕ, cond, ◌||◌, List, [], ◌∷◌, ◌++◌, ◌==◌}
+use Rattle.std.specs.Prelude.{ℕ, Bool, cond, ◌||◌, List, [], ◌∷◌, ◌++◌, ◌==◌}
 
 -- b in front of the first part
 abbrev pub onto : ℕ → List (List ℕ) → List (List ℕ)
@@ -11,10 +11,14 @@ abbrev pub lines : List ℕ → List (List ℕ)
 lines [] = []
 lines (b ∷ bs) = cond (b == 10) ((b ∷ []) ∷ lines bs) (onto b (lines bs))
 
+-- byte 10 or a space
+abbrev pub separates : ℕ → Bool
+separates b = b == 10 || b == 32
+
 -- What stands before each space and before the line end.
 abbrev pub fields : List ℕ → List (List ℕ)
 fields [] = []
-fields (b ∷ bs) = cond (b == 10 || b == 32) ([] ∷ fields bs) (onto b (fields bs))
+fields (b ∷ bs) = cond (separates b) ([] ∷ fields bs) (onto b (fields bs))
 
 -- byte 10 alone
 abbrev pub end : List ℕ

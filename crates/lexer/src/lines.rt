@@ -1,9 +1,32 @@
-ghost use Rattle.std.specs.Prelude.{◌≤◌, length};
+ghost use Rattle.std.specs.Prelude.{◌≡◌};
+ghost use Rattle.std.specs.Iterator.{YieldsFirstRef, item_count};
+ghost use Rattle.lexer.specs.Text.{lines};
+ghost use Rattle.lexer.specs.Left.{lines_left};
 
-// The lines that are left of a text, from `at` on.
+// The lines of a text, each with its end.
 #[derive(Drop)]
 pub struct Lines<'a> {
-    pub(crate) text: &'a [u8],
-    pub(crate) at: usize,
-    ghost inside: { at ≤ length text.now },
+    rest: &'a [u8],
+}
+
+impl<'a> Lines<'a> {
+    pub fn new(text: &'a [u8]) -> Lines<'a>
+        ensures { lines_left result ≡ lines text.now }
+    {
+        Lines { rest: text }
+    }
+}
+
+impl<'a> Iterator for Lines<'a> {
+    type Item = &'a [u8];
+
+    ghost next_gives = { YieldsFirstRef lines_left };
+
+    ghost remaining = { item_count lines_left };
+
+    fn next(&mut self) -> Option<&'a [u8]> {
+        let line = self.rest.split_inclusive(|b| *b == b'\n').next()?;
+        self.rest = &self.rest[line.len()..];
+        Some(line)
+    }
 }

@@ -1,3 +1,10 @@
+ghost use Rattle.std.specs.Prelude.{◌≡◌};
+ghost use Rattle.faults.specs.declared.layer.Layer.TheVariants.{Reader};
+
+use faults::by_reader::refused;
+use faults::fault::Fault;
+use faults::reason::Reason;
+
 // What a token is: a word begins with a letter, a number text with a digit.
 #[derive(Clone, Copy, PartialEq, Eq, Debug)]
 pub enum Shape {
@@ -13,4 +20,13 @@ pub struct Token<'a> {
     pub part: &'a [u8],
     pub line: u32,
     pub field: u32,
+}
+
+impl Token<'_> {
+    // The reader's refusal of this token, at its place.
+    pub fn refused(&self, reason: Reason) -> Fault
+        ensures { result ≡ record { reason = reason; layer = Reader; line = self.now.line; field = self.now.field } }
+    {
+        refused(reason, self.line, self.field)
+    }
 }

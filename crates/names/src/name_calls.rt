@@ -8,22 +8,18 @@ impl Name {
     pub fn new(text: &[u8]) -> Option<Name>
         ensures { MatchOption result (12 < length text.now) (λ n. name_bytes n ≡ text.now) }
     {
-        if text.len() > 12 {
+        let len = text.len();
+        if len > 12 {
             return None;
         }
-        let mut bytes = [0u8; 12];
-        for (i, b) in text.iter().enumerate() {
-            bytes[i] = *b;
-        }
-        Some(Name {
-            bytes,
-            len: text.len(),
-        })
+        let mut bytes = [0; 12];
+        bytes[..len].copy_from_slice(text);
+        Some(Name { bytes, len })
     }
 
     pub fn as_bytes(&self) -> &[u8]
         ensures { result.now ≡ name_bytes self.now }
     {
-        &self.bytes[0..self.len]
+        &self.bytes[..self.len]
     }
 }

@@ -1,3 +1,4 @@
 pub mod LinesMore
-pub mod Steps
+pub mod Made
 pub mod Plans
+pub mod Steps

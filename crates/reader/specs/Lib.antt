@@ -1,2 +1,3 @@
+pub mod Matched
 pub mod Lists
 pub mod TableChecks

@@ -10,9 +10,10 @@ use Rattle.sheets.specs.Checks.{exact_checks, goal_checks, entries_checks, edges
 abbrev pub goal_table : List (List ℕ) → List Check
 goal_table ls = exact_checks (heading table.Goal) 1 (slice_index_or ls 0 []) ++ (goal_checks (slice_index_or ls 1 []) ++ exact_checks end 3 (slice_index_or ls 2 []))
 
-abbrev pub task_table : List (List ℕ) → List Check
-task_table ls = exact_checks (heading table.Tasks) 4 (slice_index_or ls 0 []) ++ entries_checks [] (drop 1 ls)
+-- ns: the names of the tasks so far
+abbrev pub task_table : List (List ℕ) → List (List ℕ) → List Check
+task_table ns ls = exact_checks (heading table.Tasks) 4 (slice_index_or ls 0 []) ++ entries_checks ns (drop 1 ls)
 
--- ns: the names of the tasks
-abbrev pub edge_table : List (List ℕ) → List (List ℕ) → List Check
-edge_table ns ls = exact_checks (heading table.Edges) (6 + length ns) (slice_index_or ls 0 []) ++ edges_checks ns 0 (drop 1 ls)
+-- ns: the names of the tasks; k edges stand there already
+abbrev pub edge_table : List (List ℕ) → ℕ → List (List ℕ) → List Check
+edge_table ns k ls = exact_checks (heading table.Edges) (6 + length ns) (slice_index_or ls 0 []) ++ edges_checks ns k (drop 1 ls)

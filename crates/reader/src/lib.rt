@@ -1,8 +1,9 @@
 #![tactic(auto)]
 
+mod entries;
 mod lists;
 pub mod read;
 mod reading;
+mod reserved;
 pub mod room;
-mod room_new;
 mod tables;

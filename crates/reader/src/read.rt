@@ -1,7 +1,7 @@
 ghost use Rattle.sheets.specs.Laws.{OneMeaning};
 ghost use Rattle.sheets.specs.Reads.{Reads};
 
-use crate::lists::{Entries, Lists};
+use crate::lists::Lists;
 use crate::reading::read_lines;
 use crate::room::Room;
 use faults::fault::Fault;
@@ -15,13 +15,13 @@ pub fn read(text: &[u8], room: Room) -> Result<Sheet, Fault>
     ensures reads { Reads text.now result }
     ensures one { OneMeaning }
 {
-    let Lists { goal, tasks, edges } = read_lines(text, room)?;
-    let Entries {
-        tasks,
-        servers,
-        parts,
-    } = tasks;
-    let graph = Graph::new(goal, parts, edges, Origin::Sheet)?;
+    let Lists {
+        goal,
+        entries,
+        edges,
+    } = read_lines(text, room)?;
+    let (tasks, parts, servers) = entries.into_lists();
+    let graph = Graph::new(goal, parts, edges.into_vec(), Origin::Sheet)?;
     let rack = Row { servers };
     graph.check_rack(&rack)?;
     Ok(Sheet { tasks, graph, rack })

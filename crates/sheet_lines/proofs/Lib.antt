@@ -1,7 +1,5 @@
-pub mod After
-pub mod Cells
+pub mod Columns
 pub mod Entries
-pub mod Exact
-pub mod Names
+pub mod Finds
+pub mod Handed
 pub mod Servers
-pub mod Threes

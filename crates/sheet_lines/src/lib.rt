@@ -2,7 +2,7 @@
 
 pub mod edge;
 pub mod entry;
+pub mod line;
 pub mod lines;
-mod named;
 mod places;
 mod values;

@@ -1,75 +1,41 @@
-ghost use Rattle.std.specs.Prelude.{◌≡◌, true, not, [], ◌∷◌};
+ghost use Rattle.std.specs.Prelude.{◌≡◌};
 ghost use Rattle.lexer.specs.Text.{end};
-ghost use Rattle.cells.specs.Bytes.{field, well};
-ghost use Rattle.cells.specs.Checks.{bad, Meets};
+ghost use Rattle.cells.specs.Bytes.{field};
+ghost use Rattle.cells.specs.Checks.{Meets};
 ghost use Rattle.cells.specs.Values.{value};
 ghost use Rattle.headings.specs.Tables.{heading};
-ghost use Rattle.sheets.specs.Checks.{empty, missing, exact_checks, goal_checks};
+ghost use Rattle.sheets.specs.Checks.{exact_checks, goal_checks};
 
-use crate::values::next_field;
-use cells::cell::number_in;
-use cells::line::{is_parted, is_well, same};
-use faults::by_reader::refused;
+use crate::line::Line;
+use crate::values::Values;
+use cells::line::is_parted;
 use faults::fault::Fault;
 use faults::reason::Reason;
 use headings::table::{Table, is_heading};
-use lexer::fields::Fields;
 
-// The empty line between two tables.
-pub fn is_empty_line(line: &[u8]) -> bool
-    ensures { result ≡ empty line.now }
+// A line that has to be this table's heading.
+pub fn heading_in(line: Line<'_>, table: Table) -> Result<(), Fault>
+    ensures { Meets result (exact_checks (heading table) line.entry.number line.entry.text.now) (λ _. Unit {0}) }
 {
-    same(line, b"\n")
-}
-
-// A line that is there, and has only bytes of the format and an end; `at` is its number.
-fn whole_in(line: &[u8], at: u32) -> Result<(), Fault>
-    ensures { Meets result (bad (missing line.now) 3 at 0 ∷ bad (not (well line.now)) 2 at 0 ∷ []) (λ _. well line.now ≡ true) }
-{
-    if line.len() == 0 {
-        return Err(refused(Reason::Heading, at, 0));
-    }
-    if !is_well(line) {
-        return Err(refused(Reason::ForeignByte, at, 0));
-    }
-    Ok(())
-}
-
-// A line that has to be this table's heading; `at` is its number.
-pub fn heading_in(line: &[u8], table: Table, at: u32) -> Result<(), Fault>
-    ensures { Meets result (exact_checks (heading table) at line.now) (λ _. Unit {0}) }
-{
-    whole_in(line, at)?;
-    if !is_heading(line, table) {
-        return Err(refused(Reason::Heading, at, 0));
-    }
-    Ok(())
+    line.must_be_whole()?;
+    line.must(is_heading(line.text, table), Reason::Heading)
 }
 
 // A line that has to be empty.
-pub fn gap_in(line: &[u8], at: u32) -> Result<(), Fault>
-    ensures { Meets result (exact_checks end at line.now) (λ _. Unit {0}) }
+pub fn gap_in(line: Line<'_>) -> Result<(), Fault>
+    ensures { Meets result (exact_checks end line.entry.number line.entry.text.now) (λ _. Unit {0}) }
 {
-    whole_in(line, at)?;
-    if !is_empty_line(line) {
-        return Err(refused(Reason::Heading, at, 0));
-    }
-    Ok(())
+    line.must_be_whole()?;
+    line.must(line.is_empty(), Reason::Heading)
 }
 
 // The goal, which stands in the second line.
-pub fn goal_in(line: &[u8]) -> Result<u64, Fault>
-    ensures { Meets result (goal_checks line.now) (λ n. n ≡ value (field 0 line.now)) }
+pub fn goal_in(text: &[u8]) -> Result<u64, Fault>
+    ensures { Meets result (goal_checks text.now) (λ n. n ≡ value (field 0 text.now)) }
 {
-    whole_in(line, 2)?;
-    if is_empty_line(line) {
-        return Err(refused(Reason::Heading, 2, 0));
-    }
-    if !is_parted(line, 1) {
-        return Err(refused(Reason::FieldCount, 2, 0));
-    }
-    let mut fields = Fields::new(line, 2);
-    let only = next_field(&mut fields);
-    let goal = number_in(only, 1, 999_999_999)?;
-    Ok(u64::from(goal))
+    let line = Line { text, number: 2 };
+    line.must_be_whole()?;
+    line.must(!line.is_empty(), Reason::Heading)?;
+    line.must(is_parted(text, 1), Reason::FieldCount)?;
+    Values::of(line).number(1, 999_999_999)
 }

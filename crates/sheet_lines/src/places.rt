@@ -1,11 +1,11 @@
-ghost use Rattle.std.specs.Prelude.{◌≡◌, true, false, map, MatchOption};
+ghost use Rattle.std.specs.Prelude.{◌≡◌, map, position};
 ghost use Rattle.cells.specs.Checks.{Meets};
 ghost use Rattle.sheets.specs.Pages.{names};
 ghost use Rattle.sheets.specs.Reads.{entry};
 ghost use Rattle.sheets.specs.Checks.{taken, index_of, task_checks};
+ghost use Rattle.sheet_lines.specs.Places.{Finds};
 
 use cells::cell::name_in;
-use cells::line::same;
 use faults::by_reader::refused;
 use faults::fault::Fault;
 use faults::reason::Reason;
@@ -14,24 +14,16 @@ use sheets::sheet::SheetTask;
 
 // The place of the task that has this name.
 fn find(tasks: &[SheetTask], name: &[u8]) -> Option<usize>
-    ensures { MatchOption result (taken (names (map entry tasks.now)) name.now ≡ false) (λ v. (taken (names (map entry tasks.now)) name.now ≡ true) × (v ≡ index_of (names (map entry tasks.now)) name.now)) }
+    ensures { Finds (names (map entry tasks.now)) name.now result }
 {
-    for (i, task) in tasks.iter().enumerate() {
-        if same(task.name.as_bytes(), name) {
-            return Some(i);
-        }
-    }
-    None
+    tasks.iter().position(|task| task.name.as_bytes() == name)
 }
 
 // Whether a task has this name.
 pub(crate) fn is_taken(tasks: &[SheetTask], name: &[u8]) -> bool
     ensures { result ≡ taken (names (map entry tasks.now)) name.now }
 {
-    match find(tasks, name) {
-        Some(_) => true,
-        None => false,
-    }
+    find(tasks, name).is_some()
 }
 
 // The place of the task that a field names.
@@ -39,8 +31,5 @@ pub(crate) fn place_of(tasks: &[SheetTask], t: Token<'_>) -> Result<usize, Fault
     ensures { Meets result (task_checks (names (map entry tasks.now)) t.entry.line t.entry.field t.entry.part.now) (λ v. v ≡ index_of (names (map entry tasks.now)) t.entry.part.now) }
 {
     let name = name_in(t)?;
-    match find(tasks, name) {
-        Some(place) => Ok(place),
-        None => Err(refused(Reason::UnknownTask, t.line, t.field)),
-    }
+    find(tasks, name).ok_or(refused(Reason::UnknownTask, t.line, t.field))
 }

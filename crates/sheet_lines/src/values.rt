@@ -1,84 +1,86 @@
-ghost use Rattle.std.specs.Prelude.{◌≡◌, ◌≤◌, true, not, [], ◌∷◌, length, is_ok, ◌==◌, slice_index_or};
-ghost use Rattle.lexer.specs.Left.{fields_left, Took};
-ghost use Rattle.cells.specs.Checks.{bad, Meets};
-ghost use Rattle.cells.specs.Values.{value, named, kind_of};
+ghost use Rattle.std.specs.Prelude.{◌≡◌, ◌++◌, map};
+ghost use Rattle.lexer.specs.Text.{fields as fields_of};
+ghost use Rattle.lexer.specs.Left.{fields_left};
+ghost use Rattle.cells.specs.Checks.{Meets};
+ghost use Rattle.cells.specs.Values.{value, kind_of};
 ghost use Rattle.names.specs.Names.{name_bytes};
-ghost use Rattle.sheet_lines.specs.Groups.{Passed, named_checks, settings_checks, settings_from, inlet_checks};
+ghost use Rattle.sheets.specs.Pages.{names};
+ghost use Rattle.sheets.specs.Reads.{entry};
+ghost use Rattle.sheets.specs.Checks.{number_checks, name_checks, kind_checks, task_checks, index_of};
+ghost use Rattle.sheet_lines.specs.Values.{part, here, Reads, Passed, settings_from};
 
-use crate::named::Named;
+use crate::line::Line;
+use crate::places::place_of;
 use cells::cell::{kind_in, name_in, number_in};
 use faults::fault::Fault;
+use kinds::kind::Kind;
 use lexer::fields::Fields;
 use lexer::token::Token;
 use names::name::Name;
 use servers::settings::Settings;
+use sheets::sheet::SheetTask;
 
-// The next field of a line that has one more.
-pub(crate) fn next_field<'a>(fields: &mut Fields<'a>) -> Token<'a>
-    requires { 1 ≤ length (fields_left fields.old) }
-    ensures { Took fields.old result fields.new }
-{
-    fields.next()
+// The values that are left of a line.
+#[derive(Drop)]
+pub(crate) struct Values<'a> {
+    pub(crate) fields: Fields<'a>,
 }
 
-// The name in a field, as a copy of its own.
-fn kept_name(t: Token<'_>) -> Result<Name, Fault>
-    ensures { Meets result (bad (not (named t.entry.part.now)) 6 t.entry.line t.entry.field ∷ []) (λ n. name_bytes n ≡ t.entry.part.now) }
-{
-    let part = name_in(t)?;
-    match Name::new(part) {
-        Some(name) => Ok(name),
-        None => unreachable(),
+impl<'a> Values<'a> {
+    pub(crate) fn of(line: Line<'a>) -> Values<'a>
+        ensures left { fields_left result.fields ≡ fields_of line.entry.text.now }
+        ensures line { result.fields.line ≡ line.entry.number }
+        ensures field { result.fields.field ≡ 0 }
+    {
+        Values {
+            fields: Fields::new(line.text, line.number),
+        }
     }
-}
 
-// A task's name, its time and its server's kind.
-pub(crate) fn named_in(fields: &mut Fields<'_>) -> Result<Named, Fault>
-    requires left { 3 ≤ length (fields_left fields.old) }
-    requires near { fields.old.field ≤ 100 }
-    ensures value { Meets result (named_checks fields.old.line fields.old.field (fields_left fields.old)) (λ n. (name_bytes n.name ≡ slice_index_or (fields_left fields.old) 0 []) × (n.time ≡ value (slice_index_or (fields_left fields.old) 1 [])) × (n.kind ≡ kind_of (slice_index_or (fields_left fields.old) 2 []))) }
-    ensures passed { is_ok result ≡ true → Passed 3 fields.old fields.new }
-{
-    let first = next_field(fields);
-    let name = kept_name(first)?;
-    let second = next_field(fields);
-    let time = number_in(second, 1, 65_535)?;
-    let third = next_field(fields);
-    let kind = kind_in(third)?;
-    Ok(Named {
-        name,
-        time: u64::from(time),
-        kind,
-    })
-}
+    fn next(&mut self) -> Token<'a>
+        ensures { Reads self.old.fields result self.new.fields }
+    {
+        self.fields.next()
+    }
 
-// Three settings of a server: a period and a slice from `low` on, and a phase.
-pub(crate) fn settings_in(fields: &mut Fields<'_>, low: u32) -> Result<Settings, Fault>
-    requires left { 3 ≤ length (fields_left fields.old) }
-    requires near { fields.old.field ≤ 100 }
-    ensures value { Meets result (settings_checks low fields.old.line fields.old.field (fields_left fields.old)) (λ s. s ≡ settings_from (fields_left fields.old)) }
-    ensures passed { is_ok result ≡ true → Passed 3 fields.old fields.new }
-{
-    let first = next_field(fields);
-    let period = number_in(first, low, 65_535)?;
-    let second = next_field(fields);
-    let slice = number_in(second, low, 65_535)?;
-    let third = next_field(fields);
-    let phase = number_in(third, 0, 65_534)?;
-    Ok(Settings {
-        period: u64::from(period),
-        slice: u64::from(slice),
-        phase: u64::from(phase),
-    })
-}
+    pub(crate) fn number(&mut self, low: u32, high: u32) -> Result<u64, Fault>
+        ensures { Meets result (here (number_checks low high) 0 self.old.fields) (λ n. (n ≡ value (part 0 self.old.fields)) × Passed 1 self.old.fields self.new.fields) }
+    {
+        let number = number_in(self.next(), low, high)?;
+        Ok(u64::from(number))
+    }
 
-// Whether a task has an inlet.
-pub(crate) fn inlet_in(fields: &mut Fields<'_>) -> Result<bool, Fault>
-    requires left { 1 ≤ length (fields_left fields.old) }
-    requires near { fields.old.field ≤ 100 }
-    ensures { Meets result (inlet_checks fields.old.line fields.old.field (fields_left fields.old)) (λ b. b ≡ (value (slice_index_or (fields_left fields.old) 0 []) == 1)) }
-{
-    let only = next_field(fields);
-    let number = number_in(only, 0, 1)?;
-    Ok(number == 1)
+    pub(crate) fn name(&mut self) -> Result<Name, Fault>
+        ensures { Meets result (here name_checks 0 self.old.fields) (λ n. (name_bytes n ≡ part 0 self.old.fields) × Passed 1 self.old.fields self.new.fields) }
+    {
+        let name = name_in(self.next())?;
+        Ok(Name::new(name).unwrap())
+    }
+
+    pub(crate) fn kind(&mut self) -> Result<Kind, Fault>
+        ensures { Meets result (here kind_checks 0 self.old.fields) (λ k. (k ≡ kind_of (part 0 self.old.fields)) × Passed 1 self.old.fields self.new.fields) }
+    {
+        kind_in(self.next())
+    }
+
+    // The place of the task that is named.
+    pub(crate) fn place(&mut self, tasks: &[SheetTask]) -> Result<usize, Fault>
+        ensures { Meets result (here (task_checks (names (map entry tasks.now))) 0 self.old.fields) (λ v. (v ≡ index_of (names (map entry tasks.now)) (part 0 self.old.fields)) × Passed 1 self.old.fields self.new.fields) }
+    {
+        place_of(tasks, self.next())
+    }
+
+    // A server's period and slice from `low` on, and its phase.
+    pub(crate) fn settings(&mut self, low: u32) -> Result<Settings, Fault>
+        ensures { Meets result (here (number_checks low 65535) 0 self.old.fields ++ (here (number_checks low 65535) 1 self.old.fields ++ here (number_checks 0 65534) 2 self.old.fields)) (λ s. (s ≡ settings_from self.old.fields) × Passed 3 self.old.fields self.new.fields) }
+    {
+        let period = self.number(low, 65_535)?;
+        let slice = self.number(low, 65_535)?;
+        let phase = self.number(0, 65_534)?;
+        Ok(Settings {
+            period,
+            slice,
+            phase,
+        })
+    }
 }

@@ -11,6 +11,7 @@ use Rattle.kinds.specs.AnyKinds.{LegalAny, IsAny, any_service}
 use Rattle.kinds.specs.declared.kind.Kind.{Kind}
 use Rattle.kinds.specs.declared.kind.Kind.TheVariants.{Own, Fixed, Float}
 use Rattle.kinds.specs.declared.any_kind.AnyKind.{AnyKind}
+use Rattle.kinds.specs.declared.any_kind.AnyKind.TheVariants as any
 use Rattle.layers.specs.InnerService.{within}
 use Rattle.layers.specs.Stacks.{NoLayer, IsStack, stack_service}
 use Rattle.layers.specs.declared.stack.Stack.{Stack}
@@ -41,9 +42,15 @@ legal_server_decides e =
     (Decides-or (no_layer e.layer) (legal_fixed e.layer) (no_layer_decides e.layer) (fixed_decides e.layer))
 
 any_is : (k : Kind) (s : Settings) (b : AnyKind) → IsAny k s b → any_service b ≡ kind_service k s
-any_is Own s b m = ap any_service m.1
-any_is Fixed s b m = let h = m.2 in ap any_service m.1 ∙ (λ i. slice_service (h.0 i) (h.1 i) (h.2 i))
-any_is Float s b m = let h = m.2 in ap any_service m.1 ∙ (λ i. float_at (h.0 i) (h.1 i) (h.2 i) (h.3 i))
+any_is Own s (any.Own o) m = refl
+any_is Own s (any.Fixed f) m = absurd m
+any_is Own s (any.Float f) m = absurd m
+any_is Fixed s (any.Own o) m = absurd m
+any_is Fixed s (any.Fixed f) m = λ i. slice_service (m.0 i) (m.1 i) (m.2 i)
+any_is Fixed s (any.Float f) m = absurd m
+any_is Float s (any.Own o) m = absurd m
+any_is Float s (any.Fixed f) m = absurd m
+any_is Float s (any.Float f) m = λ i. float_at (m.0 i) (m.1 i) (m.2 i) (m.3 i)
 
 stack_is : (x : Service) (b : AnyKind) (l : Settings) (s : Stack AnyKind) → any_service b ≡ x → IsStack b l s → stack_service any_service s ≡ cond (no_layer l) x (within x (slice_service l.period l.slice l.phase))
 stack_is x b l (Bare c) e m = ap any_service m.1 ∙ e ∙ sym (cond-true (no_layer l) x _ ((no_layer_decides l).1 m.0))

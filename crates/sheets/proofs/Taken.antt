@@ -87,7 +87,7 @@ edges ns k (l ∷ ls) e =
     let b = edges ns (k + 1) ls p.1 in
     record { is = λ i. a.is i ∷ b.is i; joins = (a.joins, b.joins); most = λ h. omega (arith, a.room, b.most (omega (arith, a.room))) }
 
-names_are : (ls : List (List ℕ)) → names (map entry_of ls) ≡ map (field 0) ls
+pub names_are : (ls : List (List ℕ)) → names (map entry_of ls) ≡ map (field 0) ls
 names_are [] = refl
 names_are (l ∷ ls) = ap (λ x. field 0 l ∷ x) (names_are ls)
 

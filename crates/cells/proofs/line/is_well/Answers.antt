@@ -1,28 +1,19 @@
--- The bytes so far are of the format.
-use Rattle.std.proofs.Common.{◌+◌, sym, ◌∙◌, arith}
+-- Bytes of the format, and a line end.
+use Rattle.std.proofs.Common.{◌-◌, ◌||◌, eqb, length, arith, rules, tests}
 use Rattle.std.proofs.lemmas.Bool.Decides.{nat_tests}
-use Rattle.std.proofs.lemmas.List.{at_drop_more, at_drop_all, length-drop}
-use Rattle.cells.specs.Bytes.{well}
+use Rattle.std.proofs.lemmas.Iterator.{YieldsList-from_slice}
+use Rattle.std.proofs.lemmas.Iterator.Search.{all_from_yields_List}
+use Rattle.cells.specs.Bytes.{plain}
+use Rattle.cells.proofs.Parts.{well_is}
 use Rattle.cells.proofs.line.is_well.Goals as goal
 
-pub returns-then-b-eq10 : goal.returns-then-b-eq10
-returns-then-b-eq10 c =
-    let more = at_drop_more well c.args.line.now c.loop-i.i 0 (omega arith) in
-    let inv = c.loop-i.invariant in
-    let len = length-drop (c.loop-i.i + 1) c.args.line.now in
+pub returns-in-10 : goal.returns-in-10
+returns-in-10 c =
+    let all = all_from_yields_List (λ b. plain b || eqb b 32) _ _ _ c.all.ensures.ran (YieldsList-from_slice _ c.iter.ensures.rest) (λ x b q k. search (rules, tests)) in
+    let is = well_is c.args.line.now (length c.args.line.now - 1) (omega arith) in
     grind (arith, nat_tests)
 
-pub loop-i-preserved : goal.loop-i-preserved
-loop-i-preserved c =
-    let more = at_drop_more well c.args.line.now c.loop-i.i 0 (omega arith) in
-    let inv = c.loop-i.invariant in
+pub returns-in_default-2 : goal.returns-in_default-2
+returns-in_default-2 c =
+    let is = well_is c.args.line.now (length c.args.line.now - 1) (omega arith) in
     grind (arith, nat_tests)
-
-pub returns-then-not-is_allowed : goal.returns-then-not-is_allowed
-returns-then-not-is_allowed c =
-    let more = at_drop_more well c.args.line.now c.loop-i.i 0 (omega arith) in
-    let inv = c.loop-i.invariant in
-    grind (arith, nat_tests)
-
-pub returns : goal.returns
-returns c = sym (c.loop-i.invariant ∙ at_drop_all well c.args.line.now c.loop-i.i (omega arith))

@@ -1,5 +1,5 @@
 -- Table after table.
-use Rattle.std.proofs.Common.{◌≡◌, ℕ, List, [], ◌++◌, map, get_or, drop, vec_items, sym, refl, ap, ◌∙◌, arith}
+use Rattle.std.proofs.Common.{◌≡◌, ℕ, List, [], ◌++◌, map, length, get_or, drop, sym, ap, ◌∙◌, arith}
 use Rattle.std.proofs.lemmas.List.{drop-drop}
 use Rattle.std.proofs.lemmas.Bool.Decides.{nat_tests}
 use Rattle.lexer.specs.Text.{lines}
@@ -7,14 +7,15 @@ use Rattle.lexer.specs.Left.{lines_left}
 use Rattle.cells.specs.Bytes.{field}
 use Rattle.cells.specs.Values.{value}
 use Rattle.cells.specs.Checks.{first}
-use Rattle.cells.proofs.Firsts.{first_within}
-use Rattle.sheets.specs.Pages.{names}
-use Rattle.sheets.specs.Checks.{checks, names_in, edge_table, entry_of, edge_of, up_to_empty, past_empty}
+use Rattle.cells.proofs.Firsts.{first_within, first_after}
+use Rattle.sheets.specs.Pages.{Entry, names}
+use Rattle.sheets.specs.Checks.{checks, names_in, entry_lines, edge_table, entry_of, edge_of, up_to_empty, past_empty}
+use Rattle.sheets.proofs.Taken.{names_are}
+use Rattle.sheet_lines.proofs.Handed.{handed_on}
 use Rattle.reader.specs.TableChecks as tables
-use Rattle.reader.proofs.LinesMore.{known}
-use Rattle.reader.proofs.Steps.{Sized, handed_on, by_tables, names_of, past_goal, past_tasks}
+use Rattle.reader.proofs.Steps.{Sized, by_tables, past_goal}
 use Rattle.reader.proofs.reading.read_lines.Goals as goal
-use Rattle.reader.proofs.reading.read_lines.Goals.{In_ok-tasks}
+use Rattle.reader.proofs.reading.read_lines.Goals.{In_ok-task_table}
 
 pub returns-in_err-goal : goal.returns-in_err-goal
 returns-in_err-goal c =
@@ -23,67 +24,67 @@ returns-in_err-goal c =
     let r = c.from_residual in
     handed_on r.result _ (checks t) _ r.ensures.1
     (by_tables t sized
-    ∙ first_within (tables.goal_table (lines t)) (tables.task_table (drop 3 (lines t)) ++ tables.edge_table (names_in (lines t)) (edge_table (lines t))) _
-    (ap (λ m. first (tables.goal_table m)) (sym c.new-lines.ensures) ∙ c.in_err-goal.ensures.says))
+    ∙ first_within (tables.goal_table (lines t)) (tables.task_table [] (drop 3 (lines t)) ++ tables.edge_table (names_in (lines t)) 0 (edge_table (lines t))) _
+    (ap (λ m. first (tables.goal_table m)) (sym c.new-lines.ensures) ∙ c.in_err-goal.ensures))
 
-pub returns-in_err-tasks : goal.returns-in_err-tasks
-returns-in_err-tasks c =
+pub returns-in_err-task_table : goal.returns-in_err-task_table
+returns-in_err-task_table c =
     let t = c.args.text.now in
     let sized : Sized c.args.text.now = grind (arith, nat_tests) in
-    let r = c.from_residual-in_err-tasks in
-    let from = c.in_ok-goal.ensures.left refl ∙ ap (drop 3) c.new-lines.ensures in
+    let r = c.from_residual-in_err-task_table in
+    let from = c.in_ok-goal.ensures.1.1 ∙ ap (drop 3) c.new-lines.ensures in
+    let none = ap names c.args.room.no_entries in
     handed_on r.result _ (checks t) _ r.ensures.1
-    (past_goal t (lines_left c.new-lines.result) sized c.new-lines.ensures c.in_ok-goal.ensures.says.0
-    ∙ first_within (tables.task_table (drop 3 (lines t))) (tables.edge_table (names_in (lines t)) (edge_table (lines t))) _
-    (ap (λ m. first (tables.task_table m)) (sym from) ∙ c.in_err-tasks.ensures.says))
-
-pub edge_table-requires : goal.edge_table-requires
-edge_table-requires c =
-    let few = c.in_ok-tasks.ensures.says.1.few in
-    record { none = c.args.room.no_edges; wide = c.args.room.for_edges; few = omega (arith, few, c.deref.ensures.len) }
+    (past_goal t (lines_left c.new-lines.result) sized c.new-lines.ensures c.in_ok-goal.ensures.0
+    ∙ first_within (tables.task_table [] (drop 3 (lines t))) (tables.edge_table (names_in (lines t)) 0 (edge_table (lines t))) _
+    ((λ i. first (tables.task_table (sym none i) (sym from i))) ∙ c.in_err-task_table.ensures))
 
 -- the first two tables were in order
-record Past (t : List ℕ) (es : List (List ℕ)) (ns : List (List ℕ)) : Type 0 where
-  go_on : first (checks t) ≡ first (tables.edge_table ns es)
-  left : es ≡ edge_table (lines t)
-  known_are : ns ≡ names_in (lines t)
+record Past (t : List ℕ) (ls : List (List ℕ)) (es : List Entry) : Type 0 where
+  go_on : first (checks t) ≡ first (tables.edge_table (names es) 0 ls)
+  left : ls ≡ edge_table (lines t)
+  are : es ≡ map entry_of (entry_lines (lines t))
+  named : names es ≡ names_in (lines t)
 
-past : (c : In_ok-tasks) → Past c.args.text.now (lines_left c.task_table.new.lines) (known (vec_items c.in_ok-tasks.tasks.tasks))
+past : (c : In_ok-task_table) → Past c.args.text.now (lines_left c.task_table.new.lines) c.task_table.new.entries
 past c =
     let t = c.args.text.now in
+    let ls = lines t in
     let sized : Sized c.args.text.now = grind (arith, nat_tests) in
-    let from = c.in_ok-goal.ensures.left refl ∙ ap (drop 3) c.new-lines.ensures in
-    let below = ap (drop 1) from ∙ drop-drop 1 3 (lines t) in
-    let left = c.in_ok-tasks.ensures.left refl ∙ ap past_empty below in
-    let ns = ap names c.in_ok-tasks.ensures.says.1.are ∙ names_of (up_to_empty (drop 1 (lines_left c.goal_table.new.lines))) ∙ ap (λ m. map (field 0) (up_to_empty m)) below in
+    let from = c.in_ok-goal.ensures.1.1 ∙ ap (drop 3) c.new-lines.ensures in
+    let below = ap (drop 1) from ∙ drop-drop 1 3 ls in
+    let k = c.in_ok-task_table.ensures in
+    let left = k.1.1 ∙ ap past_empty below in
+    let none = c.args.room.no_entries in
+    let are = k.1.0 ∙ (λ i. none i ++ map entry_of (up_to_empty (below i))) in
+    let named = ap names are ∙ names_are (entry_lines ls) in
     record {
-      go_on = past_tasks t (lines_left c.new-lines.result) (lines_left c.goal_table.new.lines) sized c.new-lines.ensures c.in_ok-goal.ensures.says.0 from c.in_ok-tasks.ensures.says.0
-          ∙ (λ i. first (tables.edge_table (sym ns i) (sym left i)));
+      go_on = past_goal t (lines_left c.new-lines.result) sized c.new-lines.ensures c.in_ok-goal.ensures.0
+          ∙ first_after (tables.task_table [] (drop 3 ls)) (tables.edge_table (names_in ls) 0 (edge_table ls)) ((λ i. first (tables.task_table (names (sym none i)) (sym from i))) ∙ k.0)
+          ∙ (λ i. first (tables.edge_table (sym named i) 0 (sym left i)));
       left = left;
-      known_are = ns;
+      are = are;
+      named = named;
     }
 
-pub returns-in_err-edges : goal.returns-in_err-edges
-returns-in_err-edges c =
-    let t = c.args.text.now in
-    let p = past (goal.at.returns-in_err-edges c).In_ok-tasks in
-    let r = c.from_residual-in_err-edges in
-    handed_on r.result _ (checks t) _ r.ensures.1
-    (p.go_on ∙ ap (λ ts. first (tables.edge_table (known ts) (lines_left c.task_table.new.lines))) (sym c.deref.ensures.value) ∙ c.in_err-edges.ensures)
+pub returns-in_err-edge_table : goal.returns-in_err-edge_table
+returns-in_err-edge_table c =
+    let p = past (goal.at.returns-in_err-edge_table c).In_ok-task_table in
+    let r = c.from_residual-in_err-edge_table in
+    let none = ap length c.args.room.no_edges in
+    handed_on r.result _ (checks c.args.text.now) _ r.ensures.1
+    (p.go_on ∙ ap (λ k. first (tables.edge_table (names c.task_table.new.entries) k (lines_left c.task_table.new.lines))) (sym none) ∙ c.in_err-edge_table.ensures)
 
 pub returns : goal.returns
 returns c =
-    let t = c.args.text.now in
-    let p = past (goal.at.returns c).In_ok-tasks in
-    let same = ap known c.deref.ensures.value in
-    let ns = same ∙ p.known_are in
-    let below = ap (drop 1) (c.in_ok-goal.ensures.left refl ∙ ap (drop 3) c.new-lines.ensures) ∙ drop-drop 1 3 (lines t) in
-    let held = c.in_ok-tasks.ensures.says.1 in
+    let p = past (goal.at.returns c).In_ok-task_table in
+    let none = c.args.room.no_edges in
+    let named = p.named in
     let left = p.left in (
-      p.go_on ∙ ap (λ k. first (tables.edge_table k (lines_left c.task_table.new.lines))) (sym same) ∙ c.in_ok-edges.ensures.0,
+      p.go_on ∙ ap (λ es. first (tables.edge_table (names c.task_table.new.entries) (length es) (lines_left c.task_table.new.lines))) (sym none) ∙ c.in_ok-edge_table.ensures.0,
       record {
-        goal = c.in_ok-goal.ensures.says.1 ∙ ap (λ m. value (field 0 (get_or m 1 []))) c.new-lines.ensures;
-        tasks = record { few = held.few; are = held.are ∙ ap (λ m. map entry_of (up_to_empty m)) below; matched = held.matched };
-        edges = c.in_ok-edges.ensures.1 ∙ (λ i. map (edge_of (ns i)) (drop 1 (left i)));
+        goal = c.in_ok-goal.ensures.1.0 ∙ ap (λ m. value (field 0 (get_or m 1 []))) c.new-lines.ensures;
+        tasks = p.are;
+        edges = c.in_ok-edge_table.ensures.1 ∙ (λ i. none i ++ map (edge_of (named i)) (drop 1 (left i)));
       },
     )

@@ -1,35 +1,56 @@
 -- The shape, the fields, the name and the server, in this order.
-use Rattle.std.proofs.Common.{true, false, Some, sym, ap, ◌∙◌, subst}
-use Rattle.std.proofs.lemmas.Result.{err_from_is_err_and}
-use Rattle.sheets.specs.Pages.{Entry}
+use Rattle.std.proofs.Common.{◌≡◌, ◌<◌, true, false, ◌++◌, map, length, Some, sym, ap, ◌∙◌, subst, arith}
+use Rattle.std.proofs.lemmas.List.{length-map}
+use Rattle.std.proofs.lemmas.Bool.{ltb-true}
+use Rattle.lexer.specs.Text.{fields}
+use Rattle.cells.specs.Checks.{first}
+use Rattle.cells.proofs.Firsts.{first_within}
+use Rattle.sheets.specs.Pages.{Entry, names}
 use Rattle.sheets.specs.Offers.{Made}
-use Rattle.sheet_lines.proofs.Entries.{in_shape, in_cells, past_cells}
+use Rattle.sheets.specs.Reads.{entry}
+use Rattle.sheets.specs.Checks.{entry_checks}
+use Rattle.sheet_lines.specs.Groups.{task_cells}
+use Rattle.sheet_lines.proofs.Entries.{last_checks, past_shape, past_cells}
+use Rattle.sheet_lines.proofs.Handed.{handed_on}
 use Rattle.sheet_lines.proofs.entry.entry_in.Goals as goal
+use Rattle.sheet_lines.proofs.entry.entry_in.Goals.{In_ok-must-3}
 
-pub returns-in_err-shape_in : goal.returns-in_err-shape_in
-returns-in_err-shape_in c =
-    let p = err_from_is_err_and c.from_residual.result c.from_residual.ensures.1 in
-    rw (p.1, p.2) (in_shape c.args.tasks.now c.args.at c.args.line.now _ c.in_err-shape_in.ensures)
+-- the shape is in order
+shaped : (c : In_ok-must-3) → first (entry_checks (names (map entry c.args.tasks.now)) c.args.line.number c.args.line.text.now) ≡ first (task_cells c.args.line.number (fields c.args.line.text.now) ++ last_checks (names (map entry c.args.tasks.now)) c.args.line.number c.args.line.text.now)
+shaped c =
+    let ts = c.args.tasks.now in
+    let many = length-map (map entry ts) (λ (e : Entry). e.name) ∙ length-map ts entry in
+    past_shape (names (map entry ts)) c.args.line.number c.args.line.text.now (sym c.is_well.ensures ∙ c.in_ok-must.ensures.1)
+    (omega (arith, many, ltb-true _ 16 c.in_ok-must-2.ensures.1)) (sym c.is_parted.ensures ∙ c.in_ok-must-3.ensures.1)
 
 pub returns-in_err-task : goal.returns-in_err-task
 returns-in_err-task c =
-    let p = err_from_is_err_and c.from_residual-in_err-task.result c.from_residual-in_err-task.ensures.1 in
-    rw (p.1, p.2) (in_cells c.args.tasks.now c.args.at c.args.line.now _ c.in_ok-shape_in.ensures.0 c.in_err-task.ensures)
+    let l = c.args.line in
+    let ns = names (map entry c.args.tasks.now) in
+    let r = c.from_residual-in_err-task in
+    handed_on r.result _ (entry_checks ns l.number l.text.now) _ r.ensures.1
+    (shaped (goal.at.returns-in_err-task c).In_ok-must-3 ∙ first_within (task_cells l.number (fields l.text.now)) (last_checks ns l.number l.text.now) _ c.in_err-task.ensures)
 
 pub returns-then-is_taken : goal.returns-then-is_taken
 returns-then-is_taken c =
     let k = c.in_ok-task.ensures in
-    past_cells c.args.tasks.now c.args.at c.args.line.now c.in_ok-task.task c.as_bytes.result.now true c.in_ok-shape_in.ensures.0 k.0 k.1 c.as_bytes.ensures c.if-is_taken.ensures
+    shaped (goal.at.returns-then-is_taken c).In_ok-must-3
+    ∙ past_cells (names (map entry c.args.tasks.now)) c.args.line.number c.args.line.text.now c.in_ok-task.task c.as_bytes.result.now true k.0 k.1 c.as_bytes.ensures c.if-is_taken.ensures
     ∙ ap Some (sym c.refused.ensures)
 
 pub returns-in_err-server : goal.returns-in_err-server
 returns-in_err-server c =
-    let p = err_from_is_err_and c.from_residual-in_err-server.result c.from_residual-in_err-server.ensures.1 in
     let k = c.in_ok-task.ensures in
-    rw (p.1, p.2) (past_cells c.args.tasks.now c.args.at c.args.line.now c.in_ok-task.task c.as_bytes.result.now false c.in_ok-shape_in.ensures.0 k.0 k.1 c.as_bytes.ensures c.if-is_taken.ensures ∙ c.in_err-server.ensures)
+    let r = c.from_residual-in_err-server in
+    handed_on r.result _ (entry_checks (names (map entry c.args.tasks.now)) c.args.line.number c.args.line.text.now) _ r.ensures.1
+    (shaped (goal.at.returns-in_err-server c).In_ok-must-3
+    ∙ past_cells (names (map entry c.args.tasks.now)) c.args.line.number c.args.line.text.now c.in_ok-task.task c.as_bytes.result.now false k.0 k.1 c.as_bytes.ensures c.if-is_taken.ensures ∙ c.in_err-server.ensures)
 
 pub returns : goal.returns
 returns c =
     let k = c.in_ok-task.ensures in
-    let s = c.in_ok-server.ensures in
-    (past_cells c.args.tasks.now c.args.at c.args.line.now c.in_ok-task.task c.as_bytes.result.now false c.in_ok-shape_in.ensures.0 k.0 k.1 c.as_bytes.ensures c.if-is_taken.ensures ∙ s.0, (k.1, subst (λ (e : Entry). Made e c.in_ok-server.server) k.1 s.1))
+    let s = c.in_ok-server.ensures in (
+      shaped (goal.at.returns c).In_ok-must-3
+          ∙ past_cells (names (map entry c.args.tasks.now)) c.args.line.number c.args.line.text.now c.in_ok-task.task c.as_bytes.result.now false k.0 k.1 c.as_bytes.ensures c.if-is_taken.ensures ∙ s.0,
+      (k.1, subst (λ (e : Entry). Made e c.in_ok-server.server) k.1 s.1),
+    )

@@ -10,4 +10,4 @@ returns-in_err-needed g c =
     let f = c.args.self.now.slice in
     let far = c.in_err-needed.ensures in
     let p = err_from_is_err_and c.from_residual.result c.from_residual.ensures.1 in
-    rw (p.1, p.2) (far.0, omega (arith, far.1, worst_least _ (g.met.S.Server.keeps c.args.self.now.below) (worst_of f.period f.slice c.args.n)))
+    rw (p.1, p.2) (far.0, omega (arith, far.1, worst_least _ (g.met.S.Server.keeps c.args.self.now.below) (worst_of f.slice.period f.slice.ticks c.args.n)))

@@ -1,0 +1,83 @@
+ghost use Rattle.std.specs.Prelude.{◌≡◌, ◌<◌, ◌≤◌, List, [], ◌∷◌, ◌++◌, map, length, IfOk, vec_items};
+ghost use Rattle.sheets.specs.Pages.{Entry};
+ghost use Rattle.sheets.specs.Offers.{Made};
+ghost use Rattle.sheets.specs.Reads.{entry};
+ghost use Rattle.reader.specs.Matched.{Matched};
+
+use crate::reserved::Reserved;
+use graph::parts::Task;
+use kinds::any_kind::AnyKind;
+use layers::stack::Stack;
+use sheets::sheet::SheetTask;
+use std::alloc::{AllocError, Global};
+use std::marker::Model;
+
+// The tasks of a sheet as they were written, and for each its server and what a graph keeps of it.
+#[derive(Drop)]
+pub(crate) struct Entries {
+    tasks: Reserved<SheetTask, 16>,
+    servers: Reserved<Stack<AnyKind>, 16>,
+    parts: Reserved<Task, 16>,
+}
+
+impl Model for Entries {
+    ghost Value = { List Entry };
+
+    ghost view = { λ e. map entry e.tasks };
+
+    ghost invariant = { λ e. Matched e.tasks e.parts e.servers };
+}
+
+impl Entries {
+    pub(crate) fn new(heap: Global) -> Result<Entries, AllocError>
+        ensures { IfOk result (λ e. e ≡ []) }
+    {
+        let tasks = Reserved::new(heap)?;
+        let servers = Reserved::new(heap)?;
+        let parts = Reserved::new(heap)?;
+        Ok(Entries {
+            tasks,
+            servers,
+            parts,
+        })
+    }
+
+    pub(crate) fn len(&self) -> usize
+        ensures value { result ≡ length self.now }
+        ensures few { result ≤ 16 }
+    {
+        self.tasks.len()
+    }
+
+    pub(crate) fn tasks(&self) -> &[SheetTask]
+        ensures { map entry result.now ≡ self.now }
+    {
+        self.tasks.as_slice()
+    }
+
+    pub(crate) fn push(&mut self, task: SheetTask, server: Stack<AnyKind>)
+        requires room { length self.old < 16 }
+        requires made { Made (entry task) server }
+        ensures { self.new ≡ self.old ++ entry task ∷ [] }
+    {
+        self.tasks.push(task);
+        self.servers.push(server);
+        self.parts.push(Task {
+            time: task.time,
+            inlet: task.inlet,
+        });
+    }
+
+    // The tasks, what a graph keeps of them, and their servers.
+    pub(crate) fn into_lists(self) -> (Vec<SheetTask>, Vec<Task>, Vec<Stack<AnyKind>>)
+        ensures are { map entry (vec_items result.0) ≡ self }
+        ensures matched { Matched (vec_items result.0) (vec_items result.1) (vec_items result.2) }
+    {
+        let Entries {
+            tasks,
+            servers,
+            parts,
+        } = self;
+        (tasks.into_vec(), parts.into_vec(), servers.into_vec())
+    }
+}
