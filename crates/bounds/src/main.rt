@@ -10,8 +10,7 @@ fn main(rt: HostRuntime) -> io::Result<()> {
     let heap = rt.alloc();
     let mut text = Vec::new(heap);
     rt.stdin().read_to_end(&mut text)?;
-    let room = Room::new(heap)?;
     let mut out = Vec::with_capacity(heap, 1024)?;
-    report(&mut out, &text, room)?;
+    report(&mut out, &text, Room::new(heap)?)?;
     rt.stdout().write_all(&out)
 }

@@ -7,7 +7,7 @@ use servers::server::Server;
 use servers::settings::Settings;
 use serving::serve;
 use std::alloc::Global;
-use std::io;
+use std::{fmt, io};
 
 const WORK: usize = 6;
 
@@ -19,50 +19,57 @@ struct Job {
     worst: u64,
 }
 
-// Serves a job on a fixed slice in its worst phase, with every tick claimed by others.
-fn serve_job(heap: Global, period: u64, slice: u64) -> Result<Job, Error> {
-    let any_phase = Settings {
-        period,
-        slice,
-        phase: 0,
-    };
-    let phase = Fixed::new(any_phase, 0)?.worst_phase();
-    let settings = Settings {
-        period,
-        slice,
-        phase,
-    };
-    let mut server = Fixed::new(settings, 0)?;
-    let worst = server.worst(WORK as u64)?;
-    let mut times = vec![in heap; 0; WORK]?;
-    serve(&mut server, true, &mut times)?;
-    Ok(Job {
-        settings,
-        times,
-        worst,
-    })
-}
-
-fn print_job(rt: &HostRuntime, name: &str, job: &Job) -> io::Result<u64> {
-    let Settings {
-        period,
-        slice,
-        phase,
-    } = job.settings;
-    println!(rt; "{name}: slice {slice} of period {period}, phase {phase}")?;
-    let mut finish = 0;
-    for time in &job.times {
-        println!(rt; "granted at tick {time}")?;
-        finish = *time;
+impl Job {
+    // Serves a job on a fixed slice in its worst phase, with every tick claimed by others.
+    fn served(heap: Global, period: u64, slice: u64) -> Result<Job, Error> {
+        let any_phase = Settings {
+            period,
+            slice,
+            phase: 0,
+        };
+        let phase = Fixed::new(any_phase, 0)?.worst_phase();
+        let settings = Settings { phase, ..any_phase };
+        let mut server = Fixed::new(settings, 0)?;
+        let worst = server.worst(WORK as u64)?;
+        let mut times = vec![in heap; 0; WORK]?;
+        serve(&mut server, true, &mut times)?;
+        Ok(Job {
+            settings,
+            times,
+            worst,
+        })
     }
-    let worst = job.worst;
-    println!(rt; "job of {WORK} ticks finished at tick {finish}, worst wait {worst}")?;
-    Ok(finish)
+
+    // The tick at which the last of the work was granted.
+    fn finish(&self) -> u64 {
+        self.times.last().copied().unwrap_or(0)
+    }
 }
 
-fn run(rt: &HostRuntime, job: &Job, blunder: &Job) -> io::Result<()> {
-    let finish = print_job(rt, "as it is", job)?;
-    print_job(rt, "with the closing tick counted as inside", blunder)?;
+impl fmt::Display for Job {
+    fn fmt<W: fmt::Write>(&self, f: &mut fmt::Formatter<W>) -> fmt::Result {
+        let Settings {
+            period,
+            slice,
+            phase,
+        } = self.settings;
+        writeln!(f, "slice {slice} of period {period}, phase {phase}")?;
+        for time in &self.times {
+            writeln!(f, "granted at tick {time}")?;
+        }
+        let finish = self.finish();
+        let worst = self.worst;
+        write!(
+            f,
+            "job of {WORK} ticks finished at tick {finish}, worst wait {worst}"
+        )
+    }
+}
+
+fn tell(rt: &HostRuntime, job: &Job, blunder: &Job) -> io::Result<()> {
+    println!(rt; "as it is: {job}")?;
+    println!(rt; "with the closing tick counted as inside: {blunder}")?;
+    let finish = job.finish();
     let told = blunder.worst;
     if told < finish {
         println!(rt;
@@ -74,14 +81,12 @@ fn run(rt: &HostRuntime, job: &Job, blunder: &Job) -> io::Result<()> {
 }
 
 fn both(heap: Global) -> Result<(Job, Job), Error> {
-    let job = serve_job(heap, 10, 4)?;
-    let blunder = serve_job(heap, 10, 5)?;
-    Ok((job, blunder))
+    Ok((Job::served(heap, 10, 4)?, Job::served(heap, 10, 5)?))
 }
 
 fn main(rt: HostRuntime) -> io::Result<()> {
     match both(rt.alloc()) {
-        Ok((job, blunder)) => run(&rt, &job, &blunder),
+        Ok((job, blunder)) => tell(&rt, &job, &blunder),
         Err(Error::Refused(fault)) => println!(rt; "{fault}"),
         Err(Error::Memory) => Err(io::Error::from(io::ErrorKind::OutOfMemory)),
     }

@@ -14,7 +14,7 @@ use std::alloc::AllocError;
 use texts::line::{Cell, put_line};
 use texts::put;
 
-// The line of a fault.
+// The line of a fault, as its `Display` has it. By cells: a `writeln!` may fail for any reason, and says nothing of what it then left.
 pub(crate) fn put_fault(out: &mut Vec<u8>, fault: Fault) -> Result<(), AllocError>
     ensures { Puts out.old (fault_line fault ++ end) result out.new }
 {
@@ -28,7 +28,7 @@ pub(crate) fn put_fault(out: &mut Vec<u8>, fault: Fault) -> Result<(), AllocErro
     put_line(out, &cells)
 }
 
-// The lines of all tasks.
+// The lines of all tasks. No `put_each`: it asks for a closure that takes any item, and the figures of these are told at their own places.
 fn put_tasks(out: &mut Vec<u8>, sheet: &Sheet) -> Result<(), AllocError>
     requires { Ready sheet.now }
     ensures { Puts out.old (flat_map figures_line (entries sheet.now)) result out.new }

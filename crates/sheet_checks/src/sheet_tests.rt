@@ -1,7 +1,10 @@
 use names::name::Name;
 use reader::read::read;
 use reader::room::Room;
+use std::alloc::AllocError;
 use std::test::Fail;
+use texts::line::{Cell, put_line};
+use texts::{all_or_nothing, put, put_each, put_number};
 use writer::write;
 
 const SAMPLE: &[u8] =
@@ -35,5 +38,24 @@ fn names_of_12_bytes(rt: HostRuntime) -> Result<(), Fail> {
     };
     assert!(rt; name.as_bytes() == b"abcdefghijkl".as_slice());
     assert!(rt; Name::new(b"abcdefghijklm").is_none());
+    Ok(())
+}
+
+#[test]
+fn put_as_lines(rt: HostRuntime) -> Result<(), Fail> {
+    let mut out = Vec::new(rt.alloc());
+    put_line(&mut out, &[Cell::Word(b"most"), Cell::Number(u64::MAX)])?;
+    put_line(&mut out, &[])?;
+    put_each(&mut out, &[1, 20, 300], |out, n| put_number(out, *n))?;
+    assert!(rt; out.as_slice() == b"most 18446744073709551615\n\n120300".as_slice());
+    Ok(())
+}
+
+#[test]
+fn all_put_or_taken_back(rt: HostRuntime) -> Result<(), Fail> {
+    let mut out = Vec::new(rt.alloc());
+    all_or_nothing(&mut out, |out| put(out, b"kept"))?;
+    let done = all_or_nothing(&mut out, |out| put(out, b" lost").and(Err(AllocError)));
+    assert!(rt; done.is_err() && out.as_slice() == b"kept".as_slice());
     Ok(())
 }

@@ -1,6 +1,6 @@
 #![tactic(auto)]
 
-ghost use Rattle.std.specs.Prelude.{decimal};
+ghost use Rattle.std.specs.Prelude.{ℕ, List, decimal};
 ghost use Rattle.std.specs.List.{flat_map};
 ghost use Rattle.std.specs.Fn.{FnOnceReturnsAtMut};
 ghost use Rattle.texts.specs.Puts.{Puts, PutsAs, Undone};
@@ -24,14 +24,14 @@ pub fn put_number(out: &mut Vec<u8>, n: u64) -> Result<(), AllocError>
     put(out, Buffer::new().format(n).as_bytes())
 }
 
-// Appends the text of each item, in order, where `put_item` appends that of one.
+// Appends the text of each item, in order, where `put_item` appends that of one. By a `for`: of what the closure of a `try_for_each` changed its contract says nothing.
 pub fn put_each<T, F: Fn(&mut Vec<u8>, &T) -> Result<(), AllocError>>(
     out: &mut Vec<u8>,
     items: &[T],
     put_item: F,
 ) -> Result<(), AllocError>
     requires { F.IsAlwaysCallable put_item }
-    ensures { (text : _) → PutsAs F.Fn put_item text → Puts out.old (flat_map text items.now) result out.new }
+    ensures { (text : T → List ℕ) → PutsAs F.Fn put_item text → Puts out.old (flat_map text items.now) result out.new }
 {
     for item in items {
         put_item(out, item)?;

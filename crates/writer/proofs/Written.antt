@@ -9,7 +9,8 @@ use Rattle.sheets.specs.declared.sheet.SheetTask.{SheetTask}
 use Rattle.sheets.specs.declared.sheet.Sheet.{Sheet}
 use Rattle.sheets.specs.Pages.{all_of, entry_line, edge_line, names, goal_cells, write}
 use Rattle.sheets.specs.Reads.{entry, page}
-use Rattle.texts.proofs.Loops.{flat_map-append, flat_map-map}
+use Rattle.std.proofs.lemmas.Grind.{flat_map-append}
+use Rattle.std.proofs.lemmas.List.Folds.{flat_map-map}
 
 task_lines : (ts : List SheetTask) → flat_map (λ t. entry_line (entry t)) ts ≡ all_of (map entry_line (map entry ts))
 task_lines ts = sym (flat_map-map (λ l. l) entry_line (map entry ts) ∙ flat_map-map entry_line entry ts)

@@ -30,10 +30,7 @@ pub(crate) fn put_entry(out: &mut Vec<u8>, task: &SheetTask) -> Result<(), Alloc
 fn name_at(tasks: &[SheetTask], place: usize) -> &[u8]
     ensures { result.now ≡ slice_index_or (names (map entry tasks.now)) place [] }
 {
-    match tasks.get(place) {
-        Some(task) => task.name.as_bytes(),
-        None => b"",
-    }
+    tasks.get(place).map_or(b"", |task| task.name.as_bytes())
 }
 
 // The tasks are those that the edge's ends are places of.

@@ -1,29 +1,29 @@
 -- What `get` finds.
-use Rattle.std.proofs.Common.{◌≡◌, ℕ, ◌<◌, ◌≤◌, List, [], map, length, get_or, sym, ap, ◌∙◌}
-use lib.ListN.{length-map}
-use Rattle.std.proofs.lemmas.List.{get_or-map, get_or_past}
+use Rattle.std.proofs.Common.{◌≡◌, ℕ, zero, suc, ◌<◌, ◌≤◌, List, [], ◌∷◌, map, length, get_or, Option, Some, None, IfSome, MatchOption, Bor, refl, ap, ◌∙◌, arith, rules}
 use Rattle.names.specs.Names.{name_bytes}
 use Rattle.sheets.specs.declared.sheet.SheetTask.{SheetTask}
-use Rattle.sheets.specs.Legal.{no_entry}
 use Rattle.sheets.specs.Pages.{names}
 use Rattle.sheets.specs.Reads.{entry}
 use Rattle.writer.proofs.lines.name_at.Goals as goal
 
 within : (ts : List SheetTask) (i : ℕ) (t : SheetTask) → i < length ts → t ≡ get_or ts i t → name_bytes t.name ≡ get_or (names (map entry ts)) i []
-within ts i t h e =
-    sym
-    (get_or-map (λ x. x.name) (map entry ts) i no_entry [] (rw length-map h)
-    ∙ ap (λ x. x.name) (get_or-map entry ts i t no_entry h)
-    ∙ ap (λ x. name_bytes x.name) (sym e)
-    )
+within [] i t h e = absurd (omega arith)
+within (u ∷ ts) zero t h e = ap (λ x. name_bytes x.name) e
+within (u ∷ ts) (suc i) t h e = within ts i t (omega arith) e
 
 past : (ts : List SheetTask) (i : ℕ) → length ts ≤ i → [] ≡ get_or (names (map entry ts)) i []
-past ts i h = sym (get_or_past (names (map entry ts)) i [] (rw (length-map, length-map) h))
+past [] i h = refl
+past (u ∷ ts) zero h = absurd (omega arith)
+past (u ∷ ts) (suc i) h = past ts i (omega arith)
 
-pub returns-in-Some : goal.returns-in-Some
-returns-in-Some c =
-    let f = c.in-Some.ensures.lookup in
-    c.as_bytes.ensures ∙ within c.args.tasks.now c.args.place c.in-Some.task.now f.3.0 f.1
+named : (ts : List SheetTask) (i : ℕ) (o : Option (Bor SheetTask)) (name : List ℕ) → MatchOption o (name ≡ []) (λ x. name ≡ name_bytes x.now.name) → IfSome o (λ x. x.now ≡ get_or ts i x.now) → MatchOption o (length ts ≤ i) (λ x. i < length ts) → name ≡ get_or (names (map entry ts)) i []
+named ts i (Some x) name n e h = n ∙ within ts i x.now h e
+named ts i None name n e h = n ∙ past ts i h
 
-pub returns-in-None : goal.returns-in-None
-returns-in-None c = past c.args.tasks.now c.args.place c.in-None.ensures.lookup.3
+pub returns : goal.returns
+returns c =
+    let ts = c.args.tasks.now in
+    let f = c.get.ensures.lookup in
+    let name : MatchOption c.get.result (c.map_or.result.now ≡ []) (λ x. c.map_or.result.now ≡ name_bytes x.now.name) = search rules in
+    let there : MatchOption c.get.result (length c.args.tasks.now ≤ c.args.place) (λ x. c.args.place < length c.args.tasks.now) = grind (arith) in
+    named ts c.args.place c.get.result _ name f.1 there
