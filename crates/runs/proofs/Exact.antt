@@ -4,8 +4,9 @@ use Rattle.std.proofs.lemmas.Bool.Decides.{nat_tests}
 use Rattle.servers.specs.Slices.{wait_at, worst_of}
 use Rattle.servers.specs.FixedService.{Moves}
 use Rattle.servers.specs.declared.fixed.Fixed.{Fixed}
+use Rattle.servers.specs.declared.slice.Slice.{Slice}
 use Rattle.servers.specs.SliceLaws.{fixed_laws, fixed_moves}
-use Rattle.servers.proofs.SliceExact.{worst_after, worst_whole}
+use Rattle.servers.proofs.WorstPhase.{worst_after, worst_whole}
 use Rattle.racks.specs.declared.one.One.{One}
 use Rattle.flow.specs.Nets.{Sound, Arrivals}
 use Rattle.flow.specs.Finish.{Feeds, ReadyLargest, Finish, finish, by_worst}
@@ -48,50 +49,48 @@ module _ (f : Fixed) (T : ℕ) (pos : 1 ≤ T) (slots : ℕ) where
 
   -- where the slice stands
   record Placed (b : One Fixed) (c : ℕ) : Type 0 where
-    pub period : b.server.period ≡ f.period
     pub slice : b.server.slice ≡ f.slice
-    pub position : b.server.position ≡ posn f.period f.position c
+    pub position : b.server.position ≡ posn f.slice.period f.position c
 
   placed_tick : (a b : One Fixed) (claimed granted : Bool) (c : ℕ) → Placed a c → Moves a.server claimed granted b.server → Placed b (c + 1)
   placed_tick a b claimed granted c old m = record {
-    period = m.same_period ∙ old.period;
-    slice = m.same_slice ∙ old.slice;
+    slice = m.same ∙ old.slice;
     position =
-        m.goes ∙ ap (λ (q : ℕ). cond (ltb (a.server.position + 1) q) (a.server.position + 1) 0) old.period
-        ∙ ap (next f.period) old.position ∙ sym (posn_step f.period f.position c);
+        m.goes ∙ ap (λ (z : Slice). cond (ltb (a.server.position + 1) z.period) (a.server.position + 1) 0) old.slice
+        ∙ ap (next f.slice.period) old.position ∙ sym (posn_step f.slice.period f.position c);
   }
 
   placed : {said : List Said} {b : One Fixed} {x : Whole} → Runs said b x → Placed b x.state.clock
-  placed begin = record { period = refl; slice = refl; position = sym (posn_none f.period f.position) }
+  placed begin = record { slice = refl; position = sym (posn_none f.slice.period f.position) }
   placed (refuses run call q) = placed run
   placed (arrives run v q) = placed run
   placed (sets run v n q) = placed run
   placed (ticks {a = a} {b = b} {x = x} run claims grants q sweep) = placed_tick a b (get_or claims 0 false) (grants 0) x.state.clock (placed run) (sweep_one sweep refl)
   placed (takes run gone rest h) = placed run
 
-  module _ (i k a t : ℕ) (ki : k ≤ i) (tight : t ≡ a + worst_of f.period f.slice ((i - k + 1) * T))
-      (there : (n : ℕ) → wait_at f.period f.slice (posn f.period f.position a) n ≡ worst_of f.period f.slice n) where
+  module _ (i k a t : ℕ) (ki : k ≤ i) (tight : t ≡ a + worst_of f.slice.period f.slice.ticks ((i - k + 1) * T))
+      (there : (n : ℕ) → wait_at f.slice.period f.slice.ticks (posn f.slice.period f.position a) n ≡ worst_of f.slice.period f.slice.ticks n) where
     abbrev Low' : State → Type 0
-    Low' = Low f.period f.slice f.some f.within T pos f.position f.passed i k a t ki tight there
+    Low' = Low f.slice.period f.slice.ticks f.slice.some f.slice.within T pos f.position f.passed i k a t ki tight there
 
     low_run : {said : List Said} {b : One Fixed} {x : Whole} → Runs said b x → Full T said → Low' x.state
-    low_run begin full = low_start f.period f.slice f.some f.within T pos f.position f.passed i k a t ki tight there (lone_sound T pos)
+    low_run begin full = low_start f.slice.period f.slice.ticks f.slice.some f.slice.within T pos f.position f.passed i k a t ki tight there (lone_sound T pos)
     low_run (refuses run call q) full = low_run run full
-    low_run (arrives {x = x} run v q) full = low_arrived f.period f.slice f.some f.within T pos f.position f.passed i k a t ki tight there x.state v (low_run run full)
-    low_run (sets {x = x} run v n q) full = low_needs f.period f.slice f.some f.within T pos f.position f.passed i k a t ki tight there x.state v n full.0 (low_run run full.1)
+    low_run (arrives {x = x} run v q) full = low_arrived f.slice.period f.slice.ticks f.slice.some f.slice.within T pos f.position f.passed i k a t ki tight there x.state v (low_run run full)
+    low_run (sets {x = x} run v n q) full = low_needs f.slice.period f.slice.ticks f.slice.some f.slice.within T pos f.position f.passed i k a t ki tight there x.state v n full.0 (low_run run full.1)
     low_run (ticks {a = b} {x = x} run claims grants q sweep) full =
         let pl = placed run in
         let m = sweep_one sweep refl in
-        let e : grants 0 ≡ ltb (posn f.period f.position x.state.clock) f.slice = m.says ∙ ap (λ (n : ℕ). ltb n b.server.slice) pl.position ∙ ap (ltb (posn f.period f.position x.state.clock)) pl.slice in
-        low_ticked f.period f.slice f.some f.within T pos f.position f.passed i k a t ki tight there (lone_sound T pos) x.state grants e (low_run run full)
+        let e : grants 0 ≡ ltb (posn f.slice.period f.position x.state.clock) f.slice.ticks = m.says ∙ ap (λ (n : ℕ). ltb n b.server.slice.ticks) pl.position ∙ ap (λ (z : Slice). ltb (posn f.slice.period f.position x.state.clock) z.ticks) pl.slice in
+        low_ticked f.slice.period f.slice.ticks f.slice.some f.slice.within T pos f.position f.passed i k a t ki tight there (lone_sound T pos) x.state grants e (low_run run full)
     low_run (takes run gone rest h) full = low_run run full
 
     -- Firing i ends at t, in every run with the arrivals.
-    pub ends_at : (times : List ℕ) → get_or times k 0 ≡ a → Finish (lone T) (at_times times) (λ v m. worst_of f.period f.slice (m * T)) 0 i t →
+    pub ends_at : (times : List ℕ) → get_or times k 0 ≡ a → Finish (lone T) (at_times times) (λ v m. worst_of f.slice.period f.slice.ticks (m * T)) 0 i t →
         (said : List Said) (b : One Fixed) (x : Whole) → Runs said b x → Meets T times i t said → EndsAt x.state i t
     ends_at times at (finish rd fs ds rs m) said b x run meets =
         let pl = placed run in
-        let same : (n : ℕ) → worsts slice_at b 0 n ≡ worst_of f.period f.slice n = λ n. ap (λ (q : ℕ). worst_of q b.server.slice n) pl.period ∙ ap (λ (q : ℕ). worst_of f.period q n) pl.slice in
+        let same : (n : ℕ) → worsts slice_at b 0 n ≡ worst_of f.slice.period f.slice.ticks n = λ n. ap (λ (z : Slice). worst_of z.period z.ticks n) pl.slice in
         let d : Finish (lone T) (arrivals_of said) (by_worst (lone T) (slice_at b)) 0 i t = finish rd fs (λ j h e fe. absurd (let z : e < 0 = fe.edge in omega arith)) (λ j h. again j h) (record {
           covers = λ j h. omega (arith, m.covers j h, same ((i - j + 1) * T));
           met = (m.met.0, m.met.1, omega (arith, m.met.2, same ((i - m.met.0 + 1) * T)));
@@ -180,8 +179,8 @@ module _ (f : Fixed) (T : ℕ) (pos : 1 ≤ T) (slots : ℕ) where
       said = done (tick (false ∷ [])) ∷ r.said;
       rack = record { server = after };
       whole = _;
-      run = ticks (takes r.run r.whole.belt [] (sym (append-nil r.whole.belt))) (false ∷ []) (λ v. ltb r.rack.server.position r.rack.server.slice) ok
-          (more none (refl, record { says = refl; goes = refl; same_period = refl; same_slice = refl }));
+      run = ticks (takes r.run r.whole.belt [] (sym (append-nil r.whole.belt))) (false ∷ []) (λ v. ltb r.rack.server.position r.rack.server.slice.ticks) ok
+          (more none (refl, record { says = refl; goes = refl; same = refl }));
       full = r.full;
       clock = omega (arith, r.clock);
       count = r.count;
@@ -197,13 +196,9 @@ module _ (f : Fixed) (T : ℕ) (pos : 1 ≤ T) (slots : ℕ) where
 
         after : Fixed
         after = record {
-          period = r.rack.server.period;
           slice = r.rack.server.slice;
-          position = next r.rack.server.period r.rack.server.position;
-          some = r.rack.server.some;
-          within = r.rack.server.within;
-          short = r.rack.server.short;
-          passed = let o : r.rack.server.position < r.rack.server.period = r.rack.server.passed in grind (arith, nat_tests);
+          position = next r.rack.server.slice.period r.rack.server.position;
+          passed = let o : r.rack.server.position < r.rack.server.slice.period = r.rack.server.passed in grind (arith, nat_tests);
         }
 
     ticks_on : {m c : ℕ} (n : ℕ) → Reached m c → c + n ≤ 1000000000 → Reached m (c + n)
@@ -255,7 +250,7 @@ exact period slice time times i t case = by case.bound
         let ki : k ≤ i = m.met.1 in
         let at = worst_place period slice case.some case.within in
         let ph = phase period (a k) at.0 at.1 in
-        let f : Fixed = record { period = period; slice = slice; position = ph.0; some = case.some; within = case.within; short = case.short; passed = ph.1 } in
+        let f : Fixed = record { slice = record { period = period; ticks = slice; some = case.some; within = case.within; short = case.short }; position = ph.0; passed = ph.1 } in
         let there : (n : ℕ) → wait_at period slice (posn period ph.0 (a k)) n ≡ worst_of period slice n = λ n. ap (λ (q : ℕ). wait_at period slice q n) ph.2 ∙ at.2 n in
         let last : get_or times i 0 ≤ t = omega (arith, ((rs i (omega arith)).arrived refl).1, m.covers i (omega arith)) in
         record {

@@ -4,8 +4,7 @@ use mathlib.Core.List.Memᴰ
 use mathlib.Core.List.{Memᴰ}
 use Rattle.std.proofs.lemmas.Bool.Decides.{nat_tests}
 use Rattle.servers.specs.Slices.{wait_at, worst_of}
-use Rattle.servers.specs.SliceLaws.{worst_rises, wait_rises, moved_on}
-use Rattle.servers.proofs.SliceExact.{granted_later, passed_later}
+use Rattle.servers.specs.SliceLaws.{worst_rises, wait_rises, moved_on, granted_next, passed_next}
 use Rattle.flow.specs.Nets.{Sound}
 use Rattle.runs.specs.States.{State, Finished, one, supplied, starts, left, ends, put_out, new_state, arrived, need_set, ticked}
 use Rattle.servers.specs.Rounding.{le_or_lt}
@@ -72,10 +71,10 @@ module _ (p s : ℕ) (some : 0 < s) (fits : s ≤ p) (T : ℕ) (pos : 1 ≤ T) (
   w c n = wait_at p s (posn p φ c) n
 
   given_later : (c n : ℕ) → ltb (posn p φ c) s ≡ true → w c (n + 1) ≤ w (c + 1) n + 1
-  given_later c n e = granted_later p s some fits (posn p φ c) (posn p φ (c + 1)) (posn_below p φ below c) (moved_on (posn p φ c) p (posn p φ (c + 1)) (posn_step p φ c)) (ltb-true _ _ e) n
+  given_later c n e = omega (arith, granted_next p s some fits (posn p φ c) (posn p φ (c + 1)) (posn_below p φ below c) (moved_on (posn p φ c) p (posn p φ (c + 1)) (posn_step p φ c)) (ltb-true (posn p φ c) s e) n)
 
   kept_later : (c n : ℕ) → ltb (posn p φ c) s ≡ false → 0 < n → w c n ≤ w (c + 1) n + 1
-  kept_later c n e h = passed_later p s some fits (posn p φ c) (posn p φ (c + 1)) (posn_below p φ below c) (moved_on (posn p φ c) p (posn p φ (c + 1)) (posn_step p φ c)) (ltb-false _ _ e) n h
+  kept_later c n e h = omega (arith, passed_next p s some fits (posn p φ c) (posn p φ (c + 1)) (posn_below p φ below c) (moved_on (posn p φ c) p (posn p φ (c + 1)) (posn_step p φ c)) (ltb-false (posn p φ c) s e) n h)
 
   -- what has to be served until firing i ends
   module _ (i : ℕ) where

@@ -97,7 +97,7 @@ view_clock (suc m) = ap (λ (k : ℕ). k + 1) (view_clock m) ∙ add-one m
 
 module _ (slots : ℕ) (room : 2 ≤ slots) where
   slice : Fixed
-  slice = record { period = 10; slice = 4; position = 4; some = omega arith; within = omega arith; short = omega arith; passed = omega arith }
+  slice = record { slice = record { period = 10; ticks = 4; some = omega arith; within = omega arith; short = omega arith }; position = 4; passed = omega arith }
 
   sample_rack : SampleRack
   sample_rack = record { first = record { server = slice }; second = record { server = record {} } }
@@ -106,8 +106,8 @@ module _ (slots : ℕ) (room : 2 ≤ slots) where
     pub rack : SampleRack
     pub whole : Whole
     pub run : Run sample_steps sample_net sample_rack slots (sample_calls m) rack whole
-    pub period : rack.first.server.period ≡ 10
-    pub slice_is : rack.first.server.slice ≡ 4
+    pub period : rack.first.server.slice.period ≡ 10
+    pub slice_is : rack.first.server.slice.ticks ≡ 4
     pub position : rack.first.server.position ≡ (view m).position
     pub looks : Looks whole.state (view m)
 
@@ -129,7 +129,7 @@ module _ (slots : ℕ) (room : 2 ≤ slots) where
     rack = record { first = record { server = moved }; second = r.rack.second };
     whole = _;
     run = ticks (takes r.run r.whole.belt [] (sym (append-nil r.whole.belt))) (false ∷ false ∷ []) (grants_at r.rack.first.server.position) ok
-        (more (more none (inl (omega arith, (refl, record { says = ap (ltb r.rack.first.server.position) (sym r.slice_is); goes = refl; same_period = refl; same_slice = refl }), refl)))
+        (more (more none (inl (omega arith, (refl, record { says = ap (ltb r.rack.first.server.position) (sym r.slice_is); goes = refl; same = refl }), refl)))
         (inr (omega arith, (refl, refl), refl)));
     period = r.period;
     slice_is = r.slice_is;
@@ -145,13 +145,9 @@ module _ (slots : ℕ) (room : 2 ≤ slots) where
 
       moved : Fixed
       moved = record {
-        period = r.rack.first.server.period;
         slice = r.rack.first.server.slice;
-        position = cond (ltb (r.rack.first.server.position + 1) r.rack.first.server.period) (r.rack.first.server.position + 1) 0;
-        some = r.rack.first.server.some;
-        within = r.rack.first.server.within;
-        short = r.rack.first.server.short;
-        passed = let o : r.rack.first.server.position < r.rack.first.server.period = r.rack.first.server.passed in grind (arith, nat_tests);
+        position = cond (ltb (r.rack.first.server.position + 1) r.rack.first.server.slice.period) (r.rack.first.server.position + 1) 0;
+        passed = let o : r.rack.first.server.position < r.rack.first.server.slice.period = r.rack.first.server.passed in grind (arith, nat_tests);
       }
 
   reach : (m : ℕ) → m ≤ 1000000000 → Reached m
@@ -163,9 +159,9 @@ module _ (slots : ℕ) (room : 2 ≤ slots) where
   stamped zero = (refl, refl)
   stamped (suc m) = stamped m
 
-  module _ (a : SampleRack) (period : a.first.server.period ≡ 10) (sl : a.first.server.slice ≡ 4) where
+  module _ (a : SampleRack) (period : a.first.server.slice.period ≡ 10) (sl : a.first.server.slice.ticks ≡ 4) where
     worst : (sample_service a 0).worst 6 ≡ 18
-    worst = ap (λ (q : ℕ). worst_of q a.first.server.slice 6) period ∙ ap (λ (q : ℕ). worst_of 10 q 6) sl
+    worst = ap (λ (q : ℕ). worst_of q a.first.server.slice.ticks 6) period ∙ ap (λ (q : ℕ). worst_of 10 q 6) sl
 
     no_feed : (k e : ℕ) → k ≤ 0 → Feeds sample_net 0 k e → ⊥
     no_feed k zero h fe = let q : ◌≡◌ {A = ℕ} 1 0 = fe.into in omega arith
@@ -208,7 +204,7 @@ module _ (slots : ℕ) (room : 2 ≤ slots) where
         })
         (record { covers = λ k h. omega arith; met = (0, omega arith, omega arith) })
 
-  figures : (a : SampleRack) → a.first.server.period ≡ 10 → a.first.server.slice ≡ 4 → SampleFigures (sample_service a)
+  figures : (a : SampleRack) → a.first.server.slice.period ≡ 10 → a.first.server.slice.ticks ≡ 4 → SampleFigures (sample_service a)
   figures a p s =
       sample_figures (sample_service a)
       (λ i. p i - s i)

@@ -50,8 +50,8 @@ pub record EndsAt (s : State) (i t : ℕ) : Type 0 where
 -- For some phase of the slice, firing i ends exactly at t in every run that meets this, and there is such a run.
 pub record Attained (period slice time : ℕ) (times : List ℕ) (i t : ℕ) : Type 0 where
   pub server : Fixed
-  pub its_period : server.period ≡ period
-  pub its_slice : server.slice ≡ slice
+  pub its_period : server.slice.period ≡ period
+  pub its_slice : server.slice.ticks ≡ slice
   pub some : (slots : ℕ) → 1 ≤ slots → SomeRun time server slots times i t
   pub each :
       (slots : ℕ) → 1 ≤ slots → (said : List Said) (a : One Fixed) (x : Whole) → Run slice_steps (lone time) (record { server = server }) slots said a x →
@@ -76,8 +76,8 @@ Exact = (period slice time : ℕ) (times : List ℕ) (i t : ℕ) → Case period
 -- In some phase and some run that meets the arrivals and comes to t, firing i has not ended by u.
 pub record Later (period slice time : ℕ) (times : List ℕ) (i t u : ℕ) : Type 0 where
   pub server : Fixed
-  pub its_period : server.period ≡ period
-  pub its_slice : server.slice ≡ slice
+  pub its_period : server.slice.period ≡ period
+  pub its_slice : server.slice.ticks ≡ slice
   pub run : (slots : ℕ) → 1 ≤ slots → (r : SomeRun time server slots times i t) × ((c : ℕ) → c ≤ u → Ended r.whole.state 0 i c → ⊥)
 
 -- So no smaller bound is true in all phases.

@@ -44,8 +44,8 @@ sample_steps a k claimed granted b = Sided slice_steps own_steps 1 a.first a.sec
 
 -- The slice is 4 of every 10 ticks, in phase 4.
 pub record IsSample (a : SampleRack) : Type 0 where
-  pub period : a.first.server.period ≡ 10
-  pub slice : a.first.server.slice ≡ 4
+  pub period : a.first.server.slice.period ≡ 10
+  pub slice : a.first.server.slice.ticks ≡ 4
   pub position : a.first.server.position ≡ 4
 
 -- One arrival at clock 0, and then m ticks that nobody else claims.

@@ -1,4 +1,3 @@
 pub mod GrantsExact
 pub mod RunLaws
-pub mod SliceExact
-pub mod Told
+pub mod WorstPhase

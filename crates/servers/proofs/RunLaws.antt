@@ -1,8 +1,8 @@
 -- Runs of ticks: put one after another, and that every server grants in time.
 use Rattle.std.proofs.Common.{◌≡◌, ℕ, ◌+◌, ◌-◌, ◌<◌, ◌≤◌, Bool, true, false, cond, List, [], ◌∷◌, ◌++◌, length, refl, subst, ⊎_elim, arith}
+use Rattle.std.proofs.lemmas.Bool.{cases_lt}
 use Rattle.servers.specs.Service.{Service, Ticks, Model}
 use Rattle.servers.specs.Runs.{Tick, Run, grants, InTime}
-use Rattle.servers.specs.Rounding.{le_or_lt}
 
 pub run_append : {S : Type 0} (steps : S → Bool → Bool → S → Type 0) (a b c : S) (ts us : List Tick) → Run steps a ts b → Run steps b us c → Run steps a (ts ++ us) c
 run_append steps a b c [] us r q = subst (λ x. Run steps x us c) r q
@@ -19,17 +19,17 @@ module _ {S : Type 0} (m : Model S) where
   in_time_step : (a b : S) (t : Tick) (us : List Tick) (g : Bool) → t.granted ≡ g → m.steps a t.claimed g b → ((n : ℕ) → (m.service b).wait n ≤ length us → n ≤ grants us) → (n : ℕ) → (m.service a).wait n ≤ length (t ∷ us) → n ≤ cond g 1 0 + grants us
   in_time_step a b t us true e s later n h =
       ⊎_elim
-      (λ k. omega arith)
       (λ k.
       let one : n - 1 + 1 ≡ n = omega arith in
       let w = rw one at ((m.moves a b t.claimed true s).sooner (n - 1)) in
       omega (arith, later (n - 1) (omega arith)))
-      (le_or_lt n 0)
+      (λ k. omega arith)
+      (cases_lt 0 n)
   in_time_step a b t us false e s later n h =
       ⊎_elim
-      (λ k. omega arith)
       (λ k. omega (arith, later n (omega (arith, (m.moves a b t.claimed false s).sooner n k))))
-      (le_or_lt n 0)
+      (λ k. omega arith)
+      (cases_lt 0 n)
 
   pub in_time : InTime m.service m.steps
   in_time a b [] r n h = omega (arith, (m.keeps a).wait_least n)

@@ -20,4 +20,4 @@ Starts f = (f.passed ≡ 0) × (f.given ≡ 0)
 
 -- A float grants its slice in each period, no more and no less, whatever others claim; then it stands at the start of the next.
 abbrev pub EachPeriod : Type 0
-EachPeriod = (f g : Float) (ts : List Tick) → Starts f → Run Floats f ts g → length ts ≡ f.period → (grants ts ≡ f.slice) × Starts g
+EachPeriod = (f g : Float) (ts : List Tick) → Starts f → Run Floats f ts g → length ts ≡ f.slice.period → (grants ts ≡ f.slice.ticks) × Starts g

@@ -15,12 +15,11 @@ abbrev pub float_at : ℕ → ℕ → ℕ → ℕ → Service
 float_at p s t g = record { wait = float_wait p s t g; worst = float_worst p s; lead = 2 * (p - s); pace = pace_of p s }
 
 abbrev pub float_service : Float → Service
-float_service f = float_at f.period f.slice f.passed f.given
+float_service f = float_at f.slice.period f.slice.ticks f.passed f.given
 
 -- A tick: granted where some are owed, and nobody claims it or no more are left than are owed.
 pub record Floats (a : Float) (claimed granted : Bool) (b : Float) : Type 0 where
-  pub says : granted ≡ (nat_lt a.given a.slice && (not claimed || a.slice - a.given == a.period - a.passed))
-  pub passes : b.passed ≡ cond (nat_lt (a.passed + 1) a.period) (a.passed + 1) 0
-  pub gives : b.given ≡ cond (nat_lt (a.passed + 1) a.period) (cond granted (a.given + 1) a.given) 0
-  pub same_period : b.period ≡ a.period
-  pub same_slice : b.slice ≡ a.slice
+  pub says : granted ≡ (nat_lt a.given a.slice.ticks && (not claimed || a.slice.ticks - a.given == a.slice.period - a.passed))
+  pub passes : b.passed ≡ cond (nat_lt (a.passed + 1) a.slice.period) (a.passed + 1) 0
+  pub gives : b.given ≡ cond (nat_lt (a.passed + 1) a.slice.period) (cond granted (a.given + 1) a.given) 0
+  pub same : b.slice ≡ a.slice

@@ -1,13 +1,14 @@
 -- Rounding up: what it keeps, and how it is reckoned.
 use Rattle.std.specs.Prelude.{◌≡◌, ℕ, ◌+◌, ◌-◌, ◌*◌, ◌/◌, ◌%◌, ◌<◌, ◌≤◌, min, ◌⊎◌}
-use Rattle.std.proofs.Common.{ap, ◌∙◌, inl, inr, ⊎_elim, mul_comm, mul-add, add-mul, mul-zero, mul-one, mod-lt, arith}
-use Rattle.std.proofs.Math.Nat.{mul-div-le, lt-div-mul-add, div-add-mod}
+use Rattle.std.proofs.Common.{inl, inr, ⊎_elim, mul_comm, mul-add, add-mul, mul-one, arith}
+use Rattle.std.proofs.lemmas.Bool.{cases_lt}
+use Rattle.std.proofs.Math.Nat.{mul-div-le, lt-div-mul-add}
+use Rattle.std.proofs.lemmas.Grind.{div_ceil_times}
 use Rattle.std.proofs.lemmas.Nat.{le-div, div_below}
-use Rattle.std.proofs.lemmas.Bool.Decides.{leb_tells}
 use Rattle.servers.specs.Slices.{up}
 
 pub le_or_lt : (a b : ℕ) → (a ≤ b) ⊎ (b < a)
-le_or_lt a b = ⊎_elim (λ h. inl h.1) (λ h. inr h.1) (leb_tells a b)
+le_or_lt a b = ⊎_elim inr inl (cases_lt b a)
 
 module _ (s : ℕ) (some : 0 < s) where
   pub up_covers : (a : ℕ) → a ≤ s * up a s
@@ -49,13 +50,7 @@ module _ (s : ℕ) (some : 0 < s) where
   -- as a quotient, and one more where there is a rest
   pub up_quotient : (a : ℕ) → a / s + min 1 (a % s) ≡ up a s
   up_quotient a =
-      let whole = div-add-mod a s in
-      let rest : a % s < s = mod-lt a some in
-      let split = mul-add s (a / s) (min 1 (a % s)) in
-      let last : (a % s ≤ s * min 1 (a % s)) × (s * min 1 (a % s) ≤ a % s + (s - 1)) = ⊎_elim
-      (λ h. let e : min 1 (a % s) ≡ 0 = omega arith in let z = ap (λ k. s * k) e ∙ mul-zero s in (omega arith, omega arith))
-      (λ h. let e : min 1 (a % s) ≡ 1 = omega arith in let z = ap (λ k. s * k) e ∙ mul-one s in (omega arith, omega arith))
-      (le_or_lt (a % s) 0) in
-      let lo : up a s ≤ a / s + min 1 (a % s) = up_least a (a / s + min 1 (a % s)) (omega arith) in
-      let hi : a / s + min 1 (a % s) ≤ up a s = up_from a (a / s + min 1 (a % s)) (omega arith) in
-      omega arith
+      let k : ℕ = a / s + min 1 (a % s) in
+      let t = div_ceil_times a s some in
+      let c = mul_comm s k in
+      omega (arith, up_least a k (omega arith), up_from a k (omega arith))

@@ -1,22 +1,22 @@
 -- A fixed slice keeps the laws of a service, and a tick brings its grants sooner.
 use Rattle.std.specs.Prelude.{◌≡◌, ℕ, ◌+◌, ◌-◌, ◌*◌, ◌<◌, ◌≤◌, Bool, true, false, cond, ◌⊎◌, ◌==◌, nat_lt, refl}
 use Rattle.std.proofs.Common.{sym, ap, ◌∙◌, inl, inr, ⊎_elim, mul_comm, mul-add, add-mul, mul_assoc, mul-le-mul_left, mul-zero, zero-mul, mul-one, arith, ltb-true, ltb-false, lt-ltb, le-ltb}
-use Rattle.std.proofs.lemmas.Bool.{cond-true, cond-false, ne_eqb}
+use Rattle.std.proofs.lemmas.Bool.{cases_lt, cond-true, cond-false, ne_eqb}
 use Rattle.servers.specs.Service.{Laws, Sooner, Ticks}
 use Rattle.servers.specs.Slices.{up, fresh, wait_at, worst_of, pace_of}
 use Rattle.servers.specs.FixedService.{slice_service, fixed_service, Moves}
 use Rattle.servers.specs.declared.fixed.Fixed.{Fixed}
-use Rattle.servers.specs.Rounding.{le_or_lt, up_near, up_least, up_from, up_rises, up_adds, up_some, up_none, up_more}
+use Rattle.servers.specs.Rounding.{up_near, up_least, up_from, up_rises, up_adds, up_some, up_none, up_more}
 
 module _ (p s at : ℕ) where
   pub wait_soon : (n : ℕ) → n ≤ s - at → wait_at p s at n ≡ n
   wait_soon n h =
       ⊎_elim
-      (λ k. let z : n ≡ 0 = omega arith in rw z refl)
       (λ k.
       cond-false (n == 0) 0 (cond (nat_lt (s - at) n) ((p - at) + fresh p s (n - (s - at))) n) (ne_eqb n 0 (λ e. omega arith))
       ∙ cond-false (nat_lt (s - at) n) ((p - at) + fresh p s (n - (s - at))) n (le-ltb (s - at) n h))
-      (le_or_lt n 0)
+      (λ k. let z : n ≡ 0 = omega arith in rw z refl)
+      (cases_lt 0 n)
 
   pub wait_late : (n : ℕ) → s - at < n → wait_at p s at n ≡ (p - at) + fresh p s (n - (s - at))
   wait_late n h =
@@ -50,27 +50,27 @@ module _ (p s : ℕ) (some : 0 < s) (fits : s ≤ p) where
     pub wait_least : (n : ℕ) → n ≤ wait_at p s at n
     wait_least n =
         ⊎_elim
-        (λ h. rw (wait_soon p s at n h) (omega arith))
         (λ h. rw (wait_late p s at n h) (omega (arith, fresh_least (n - (s - at)))))
-        (le_or_lt n (s - at))
+        (λ h. rw (wait_soon p s at n h) (omega arith))
+        (cases_lt (s - at) n)
 
     pub wait_rises : (m n : ℕ) → m ≤ n → wait_at p s at m ≤ wait_at p s at n
     wait_rises m n h =
         ⊎_elim
-        (λ k. rw (wait_soon p s at m k) (omega (arith, wait_least n)))
         (λ k. omega (arith, wait_late p s at m k, wait_late p s at n (omega arith), fresh_rises (m - (s - at)) (n - (s - at)) (omega arith)))
-        (le_or_lt m (s - at))
+        (λ k. rw (wait_soon p s at m k) (omega (arith, wait_least n)))
+        (cases_lt (s - at) m)
 
     pub wait_most : (n : ℕ) → wait_at p s at n ≤ worst_of p s n
     wait_most n =
         ⊎_elim
-        (λ h. omega (arith, wait_soon p s at n h))
         (λ h.
         let w = worst_rises (n - (s - at)) n (omega arith) in
         let g = fresh_gap (n - (s - at)) (omega arith) in
         let q = mul-le-mul_left (p - s) (up_rises s some (n - (s - at)) n (omega arith)) in
         omega (arith, wait_late p s at n h))
-        (le_or_lt n (s - at))
+        (λ h. omega (arith, wait_soon p s at n h))
+        (cases_lt (s - at) n)
 
   pub worst_none : worst_of p s 0 ≡ 0
   worst_none = omega (arith, ap (λ k. (p - s) * k) (up_none s some), mul-zero (p - s))
@@ -96,9 +96,9 @@ module _ (p s : ℕ) (some : 0 < s) (fits : s ≤ p) where
       let d : ℕ = p - s in
       let k : ℕ = up n s - 1 in
       let near : s * k ≤ n = ⊎_elim
-      (λ h. omega (arith, ap (λ j. s * j) (let z : k ≡ 0 = omega arith in z), mul-zero s))
       (λ h. omega (arith, up_near s some n, ap (λ j. s * j) (let z : up n s ≡ k + 1 = omega arith in z), mul-add s k 1, mul-one s))
-      (le_or_lt (up n s) 0) in
+      (λ h. omega (arith, ap (λ j. s * j) (let z : k ≡ 0 = omega arith in z), mul-zero s))
+      (cases_lt 0 (up n s)) in
       let times : d * (s * k) ≤ d * n = mul-le-mul_left d near in
       let regroup : s * (d * k) ≡ d * (s * k) = sym (mul_assoc s d k) ∙ ap (λ j. j * k) (mul_comm s d) ∙ mul_assoc d s k in
       up_from s some (n * p) (n + d * k) (omega (arith, mul-add s n (d * k), mul_comm s n, gap_times n, mul_comm n d))
@@ -106,9 +106,9 @@ module _ (p s : ℕ) (some : 0 < s) (fits : s ≤ p) where
   pub worst_most : (n : ℕ) → worst_of p s n ≤ (p - s) + pace_of p s n
   worst_most n =
       ⊎_elim
-      (λ h. omega (arith, worst_none, worst_rises n 0 h))
       (λ h. omega (arith, fresh_gap n h, fresh_paced n))
-      (le_or_lt n 0)
+      (λ h. omega (arith, worst_none, worst_rises n 0 h))
+      (cases_lt 0 n)
 
   pub slice_laws : (at : ℕ) → at < p → Laws (slice_service p s at)
   slice_laws at passed = record {
@@ -125,28 +125,35 @@ module _ (p s : ℕ) (some : 0 < s) (fits : s ≤ p) where
     pace_adds = pace_adds;
   }
 
+  -- where the slice is the period, there is nothing to wait for
+  pub wait_whole : s ≡ p → (at : ℕ) → at < p → (n : ℕ) → wait_at p s at n ≡ n
+  wait_whole e at passed n =
+      let d : p - s ≡ 0 = omega arith in
+      let z : (p - s) * up n s ≡ 0 = ap (λ k. k * up n s) d ∙ zero-mul (up n s) in
+      omega (arith, wait_least at passed n, wait_most at passed n)
+
   -- how a position moves on
   module _ (at next : ℕ) (passed : at < p) (moves : ((at + 1 < p) × (next ≡ at + 1)) ⊎ ((p ≤ at + 1) × (next ≡ 0))) where
-    granted_sooner : at < s → (n : ℕ) → wait_at p s next n + 1 ≤ wait_at p s at (n + 1)
-    granted_sooner within n =
+    -- a granted tick takes just one grant and one tick off the wait
+    pub granted_next : at < s → (n : ℕ) → wait_at p s at (n + 1) ≡ wait_at p s next n + 1
+    granted_next within n =
         ⊎_elim
         (λ m.
         let e = ap (λ k. wait_at p s k n) m.1 in
         ⊎_elim
-        (λ h. omega (arith, wait_soon p s (at + 1) n h, wait_soon p s at (n + 1) (omega arith)))
         (λ h.
         let i : n + 1 - (s - at) ≡ n - (s - (at + 1)) = omega arith in
         omega (arith, wait_late p s (at + 1) n h, wait_late p s at (n + 1) (omega arith), ap (fresh p s) i))
-        (le_or_lt n (s - (at + 1))))
+        (λ h. omega (arith, wait_soon p s (at + 1) n h, wait_soon p s at (n + 1) (omega arith)))
+        (cases_lt (s - (at + 1)) n))
         (λ m.
         let e = ap (λ k. wait_at p s k n) m.1 in
-        let d : p - s ≡ 0 = omega arith in
-        let z : (p - s) * up n s ≡ 0 = ap (λ k. k * up n s) d ∙ zero-mul (up n s) in
-        omega (arith, wait_most 0 (omega arith) n, wait_least at passed (n + 1)))
+        omega (arith, wait_whole (omega arith) 0 (omega arith) n, wait_whole (omega arith) at passed (n + 1)))
         moves
 
-    passed_sooner : s ≤ at → (n : ℕ) → 0 < n → wait_at p s next n + 1 ≤ wait_at p s at n
-    passed_sooner over n some_n =
+    -- another tick takes just one tick off it
+    pub passed_next : s ≤ at → (n : ℕ) → 0 < n → wait_at p s at n ≡ wait_at p s next n + 1
+    passed_next over n some_n =
         let old = wait_late p s at n (omega arith) in
         let i = ap (fresh p s) (let i : n - (s - at) ≡ n = omega arith in i) in
         ⊎_elim
@@ -157,34 +164,37 @@ module _ (p s : ℕ) (some : 0 < s) (fits : s ≤ p) where
         (λ m.
         let e = ap (λ k. wait_at p s k n) m.1 in
         ⊎_elim
-        (λ h. omega (arith, wait_soon p s 0 n h, fresh_least n))
         (λ h.
         let j = ap (fresh p s) (let j : n - (s - 0) ≡ n - s = omega arith in j) in
         let more = ap (λ k. up k s) (let k : n ≡ n - s + s = omega arith in k) ∙ up_more s some (n - s) in
         let q : (p - s) * (up n s - 1) ≡ (p - s) * up (n - s) s = ap (λ k. (p - s) * k) (let k : up n s - 1 ≡ up (n - s) s = omega arith in k) in
         omega (arith, wait_late p s 0 n h, fresh_gap (n - s) (omega arith)))
-        (le_or_lt n (s - 0)))
+        (λ h.
+        let u = up_least s some n 1 (omega (arith, mul-one s)) in
+        let z : (p - s) * (up n s - 1) ≡ 0 = ap (λ k. (p - s) * k) (let k : up n s - 1 ≡ 0 = omega arith in k) ∙ mul-zero (p - s) in
+        omega (arith, wait_soon p s 0 n h))
+        (cases_lt (s - 0) n))
         moves
 
     slice_sooner : (g : Bool) → nat_lt at s ≡ g → Sooner g (wait_at p s at) (wait_at p s next)
-    slice_sooner true e = granted_sooner (ltb-true at s e)
-    slice_sooner false e = passed_sooner (ltb-false at s e)
+    slice_sooner true e = λ n. omega (arith, granted_next (ltb-true at s e) n)
+    slice_sooner false e = λ n h. omega (arith, passed_next (ltb-false at s e) n h)
 
     pub slice_ticks : Ticks (slice_service p s at) (nat_lt at s) (slice_service p s next)
     slice_ticks = record { sooner = slice_sooner (nat_lt at s) refl; same_worst = λ n. refl; same_lead = refl; same_pace = λ n. refl }
 
 pub fixed_laws : (f : Fixed) → Laws (fixed_service f)
-fixed_laws f = slice_laws f.period f.slice f.some f.within f.position f.passed
+fixed_laws f = slice_laws f.slice.period f.slice.ticks f.slice.some f.slice.within f.position f.passed
 
 pub moved_on : (at p next : ℕ) → next ≡ cond (nat_lt (at + 1) p) (at + 1) 0 → ((at + 1 < p) × (next ≡ at + 1)) ⊎ ((p ≤ at + 1) × (next ≡ 0))
 moved_on at p next e =
     ⊎_elim
-    (λ h. inr (h, e ∙ ap (λ t. cond t (at + 1) 0) (le-ltb (at + 1) p h)))
     (λ h. inl (h, e ∙ ap (λ t. cond t (at + 1) 0) (lt-ltb (at + 1) p h)))
-    (le_or_lt p (at + 1))
+    (λ h. inr (h, e ∙ ap (λ t. cond t (at + 1) 0) (le-ltb (at + 1) p h)))
+    (cases_lt (at + 1) p)
 
 pub fixed_moves : (a b : Fixed) (c g : Bool) → Moves a c g b → Ticks (fixed_service a) g (fixed_service b)
 fixed_moves a b c g m =
-    rw (m.same_period, m.same_slice, m.says)
-    (slice_ticks a.period a.slice a.some a.within a.position b.position a.passed
-    (moved_on a.position a.period b.position m.goes))
+    rw (m.same, m.says)
+    (slice_ticks a.slice.period a.slice.ticks a.slice.some a.slice.within a.position b.position a.passed
+    (moved_on a.position a.slice.period b.position m.goes))

@@ -12,12 +12,7 @@ pub fn told(figure: u64) -> Result<u64, Fault>
     ensures { Tells figure result }
 {
     if figure > CEILING {
-        return Err(Fault {
-            reason: Reason::Ceiling,
-            layer: Layer::Server,
-            line: 0,
-            field: 0,
-        });
+        return Err(Layer::Server.refuses(Reason::Ceiling, 0, 0));
     }
     Ok(figure)
 }

@@ -7,7 +7,7 @@ use faults::layer::Layer;
 use faults::reason::Reason;
 
 // What a planner writes of a server: `slice` ticks of every `period` are the task's, and `phase` ticks of the first period have passed at the start.
-#[derive(Clone, Copy)]
+#[derive(Clone, Copy, PartialEq, Eq, Debug)]
 pub struct Settings {
     pub period: u64,
     pub slice: u64,
@@ -18,10 +18,5 @@ pub struct Settings {
 pub(crate) fn refused(line: u32) -> Fault
     ensures { result ≡ fault 10 AtServer line 0 }
 {
-    Fault {
-        reason: Reason::Settings,
-        layer: Layer::Server,
-        line,
-        field: 0,
-    }
+    Layer::Server.refuses(Reason::Settings, line, 0)
 }

@@ -1,24 +1,26 @@
 -- Ticks that were not granted, and what a job has come to.
-use Rattle.std.proofs.Common.{◌≡◌, ℕ, zero, suc, ◌+◌, ◌<◌, ◌≤◌, Bool, true, false, cond, List, [], ◌∷◌, ◌++◌, length, get_or, take, set, sym, refl, ap, ◌∙◌, ⊎_elim, add-one, arith, length-append}
+use Rattle.std.proofs.Common.{◌≡◌, ℕ, zero, suc, ◌+◌, ◌<◌, ◌≤◌, Bool, true, false, cond, List, [], ◌∷◌, ◌++◌, length, get_or, take, set, sym, refl, ap, ◌∙◌, ⊎_elim, arith, length-append}
+use Rattle.std.specs.List.{All}
+use Rattle.std.proofs.Math.ListN.{replicate}
+use Rattle.std.proofs.lemmas.Grind.{common_steps, replicate_next}
+use Rattle.std.proofs.lemmas.List.Elements.{All-nil, All-append, All-replicate}
 use Rattle.std.proofs.lemmas.List.{get_or_append_left, get_or_push, take_more_set, take_all}
 use Rattle.servers.specs.Figures.{ceiling}
 use Rattle.servers.specs.Service.{Model}
 use Rattle.servers.specs.Runs.{Tick, Run}
 use Rattle.servers.specs.Rounding.{le_or_lt}
 use Rattle.servers.proofs.RunLaws.{run_append}
-use Rattle.serving.specs.Served.{grant_times, Claimed, latest, Served, tick, misses, Waited}
+use Rattle.serving.specs.Served.{grant_times, latest, Served, tick, Waited}
 
-misses_more : (c : Bool) (m : ℕ) → misses c (m + 1) ≡ misses c m ++ (tick c false ∷ [])
-misses_more c zero = refl
-misses_more c (suc m) = rw add-one (ap (λ ts. tick c false ∷ ts) (rw add-one at (misses_more c m)))
+-- So many ticks that were not granted, and one that was.
+abbrev waiting : Bool → ℕ → List Tick
+waiting c k = replicate k (tick c false) ++ (tick c true ∷ [])
 
-claimed_append : (c : Bool) (ts us : List Tick) → Claimed c ts → Claimed c us → Claimed c (ts ++ us)
-claimed_append c [] us p q = q
-claimed_append c (t ∷ ts) us p q = (p.0, claimed_append c ts us p.1 q)
+waiting_length : (c : Bool) (k : ℕ) → length (waiting c k) ≡ k + 1
+waiting_length c k = grind (arith, common_steps)
 
-claimed_misses : (c : Bool) (k : ℕ) → Claimed c (misses c k ++ (tick c true ∷ []))
-claimed_misses c zero = (refl, tt)
-claimed_misses c (suc k) = (refl, claimed_misses c k)
+waiting_claimed : (c : Bool) (k : ℕ) → All (λ t. t.claimed ≡ c) (waiting c k)
+waiting_claimed c k = All-append (λ (t : Tick). t.claimed ≡ c) _ _ (All-replicate (λ (t : Tick). t.claimed ≡ c) k (tick c false) refl) (All-replicate (λ (t : Tick). t.claimed ≡ c) 1 (tick c true) refl)
 
 latest_push : (t now : ℕ) (ts : List ℕ) → latest t (ts ++ (now ∷ [])) ≡ now
 latest_push t now [] = refl
@@ -35,18 +37,14 @@ times_append clock (t ∷ ts) us =
     times_step t.granted (clock + 1) _ _ _
     (times_append (clock + 1) ts us ∙ ap (λ n. grant_times (clock + 1) ts ++ grant_times n us) (let e : clock + 1 + length ts ≡ clock + length (t ∷ ts) = omega arith in e))
 
-times_misses : (clock : ℕ) (c : Bool) (k : ℕ) → grant_times clock (misses c k ++ (tick c true ∷ [])) ≡ (clock + (k + 1)) ∷ []
+times_misses : (clock : ℕ) (c : Bool) (k : ℕ) → grant_times clock (waiting c k) ≡ (clock + (k + 1)) ∷ []
 times_misses clock c zero = refl
 times_misses clock c (suc k) = times_misses (clock + 1) c k ∙ ap (λ n. n ∷ []) (let e : clock + 1 + (k + 1) ≡ clock + (suc k + 1) = omega arith in e)
-
-length_misses : (c : Bool) (k : ℕ) → length (misses c k ++ (tick c true ∷ [])) ≡ k + 1
-length_misses c zero = refl
-length_misses c (suc k) = omega (arith, length_misses c k)
 
 module _ {S : Type 0} (m : Model S) where
   -- After so many ticks that were not granted.
   pub record Missed (a : S) (c : Bool) (missed : ℕ) (b : S) : Type 0 where
-    pub went : Run m.steps a (misses c missed) b
+    pub went : Run m.steps a (replicate missed (tick c false)) b
     pub sooner : (n : ℕ) → 0 < n → missed + (m.service b).wait n ≤ (m.service a).wait n
 
   pub missed_none : (a : S) (c : Bool) → Missed a c 0 a
@@ -56,7 +54,7 @@ module _ {S : Type 0} (m : Model S) where
   missed_more a b d c g k w s e =
       let s' : m.steps b c false d = rw e at s in
       record {
-        went = rw (misses_more c k) (run_append m.steps a b d (misses c k) (tick c false ∷ []) w.went (d, s', refl));
+        went = rw (replicate_next k (tick c false)) (run_append m.steps a b d (replicate k (tick c false)) (tick c false ∷ []) w.went (d, s', refl));
         sooner = λ n h. omega (arith, w.sooner n h, (m.moves b d c false s').sooner n h);
       }
 
@@ -64,7 +62,7 @@ module _ {S : Type 0} (m : Model S) where
   missed_ends a b d c g k w s e =
       let s' : m.steps b c true d = rw e at s in
       record {
-        went = run_append m.steps a b d (misses c k) (tick c true ∷ []) w.went (d, s', refl);
+        went = run_append m.steps a b d (replicate k (tick c false)) (tick c true ∷ []) w.went (d, s', refl);
         sooner = λ n. omega (arith, w.sooner (n + 1) (omega arith), (m.moves b d c true s').sooner n);
       }
 
@@ -72,7 +70,7 @@ module _ {S : Type 0} (m : Model S) where
   pub record Part (a : S) (c : Bool) (clock : ℕ) (times : List ℕ) (b : S) : Type 0 where
     pub ticks : List Tick
     pub went : Run m.steps a ticks b
-    pub all : Claimed c ticks
+    pub all : All (λ t. t.claimed ≡ c) ticks
     pub when : grant_times 0 ticks ≡ times
     pub ends : length ticks ≡ clock
     pub last : clock ≡ latest 0 times
@@ -83,7 +81,7 @@ module _ {S : Type 0} (m : Model S) where
   part_none a c = record {
     ticks = [];
     went = refl;
-    all = tt;
+    all = All-nil (λ (t : Tick). t.claimed ≡ c);
     when = refl;
     ends = refl;
     last = refl;
@@ -93,15 +91,15 @@ module _ {S : Type 0} (m : Model S) where
 
   pub part_more : (a b d : S) (c : Bool) (clock k : ℕ) (times : List ℕ) → Part a c clock times b → Waited m.service m.steps b c k d → Part a c (clock + (k + 1)) (times ++ ((clock + (k + 1)) ∷ [])) d
   part_more a b d c clock k times p w =
-      let us = misses c k ++ (tick c true ∷ []) in
+      let us : List Tick = waiting c k in
       let now = clock + (k + 1) in
       let size = length-append times (now ∷ []) in
       record {
         ticks = p.ticks ++ us;
         went = run_append m.steps a b d p.ticks us p.went w.went;
-        all = claimed_append c p.ticks us p.all (claimed_misses c k);
+        all = All-append (λ (t : Tick). t.claimed ≡ c) p.ticks us p.all (waiting_claimed c k);
         when = times_append 0 p.ticks us ∙ times_joined p.when (ap (λ n. grant_times n us) (let e : 0 + length p.ticks ≡ clock = omega (arith, p.ends) in e) ∙ times_misses clock c k);
-        ends = omega (arith, length-append p.ticks us, length_misses c k, p.ends);
+        ends = omega (arith, length-append p.ticks us, waiting_length c k, p.ends);
         last = sym (latest_push 0 now times);
         soon = λ i h. ⊎_elim
             (λ over.

@@ -1,5 +1,6 @@
 -- A job served tick by tick.
-use Rattle.std.specs.Prelude.{◌≡◌, ℕ, zero, suc, ◌+◌, ◌<◌, ◌≤◌, Bool, true, false, cond, List, [], ◌∷◌, ◌++◌, length, Result, MatchResult, slice_index}
+use Rattle.std.specs.Prelude.{◌≡◌, ℕ, ◌+◌, ◌<◌, ◌≤◌, Bool, true, false, cond, List, [], ◌∷◌, ◌++◌, length, replicate, Result, MatchResult, slice_index}
+use Rattle.std.specs.List.{All}
 use Rattle.faults.specs.Faults.{fault}
 use Rattle.faults.specs.declared.fault.Fault.{Fault}
 use Rattle.faults.specs.declared.layer.Layer.TheVariants.{Server}
@@ -12,22 +13,17 @@ abbrev pub grant_times : ℕ → List Tick → List ℕ
 grant_times clock [] = []
 grant_times clock (t ∷ ts) = cond t.granted ((clock + 1) ∷ grant_times (clock + 1) ts) (grant_times (clock + 1) ts)
 
--- Others claimed every tick, or none.
-abbrev pub Claimed : Bool → List Tick → Type 0
-Claimed c [] = Unit {0}
-Claimed c (t ∷ ts) = (t.claimed ≡ c) × Claimed c ts
-
 -- The last of some times, 0 where there is none.
 abbrev pub latest : ℕ → List ℕ → ℕ
 latest t [] = t
 latest _ (t ∷ ts) = latest t ts
 
--- From state a to state b a job of so many ticks was served: a run whose grants came at these times and which ended with the last of them.
+-- From state a to state b a job of so many ticks was served: a run in which others claimed every tick or none, whose grants came at these times and which ended with the last of them.
 -- None came later than the wait in state a says.
 pub record Served {S : Type 0} (service : S → Service) (steps : S → Bool → Bool → S → Type 0) (a : S) (claimed : Bool) (work : ℕ) (times : List ℕ) (b : S) : Type 0 where
   pub ticks : List Tick
   pub went : Run steps a ticks b
-  pub all : Claimed claimed ticks
+  pub all : All (λ t. t.claimed ≡ claimed) ticks
   pub when : grant_times 0 ticks ≡ times
   pub whole : length times ≡ work
   pub ends : length ticks ≡ latest 0 times
@@ -43,12 +39,7 @@ Serves service steps a claimed slots r b times =
 abbrev pub tick : Bool → Bool → Tick
 tick c g = record { claimed = c; granted = g }
 
--- So many ticks that were not granted.
-abbrev pub misses : Bool → ℕ → List Tick
-misses c zero = []
-misses c (suc n) = tick c false ∷ misses c n
-
 -- From state a to state b: so many ticks that were not granted, and then one that was; all waits are shorter by them.
 pub record Waited {S : Type 0} (service : S → Service) (steps : S → Bool → Bool → S → Type 0) (a : S) (claimed : Bool) (missed : ℕ) (b : S) : Type 0 where
-  pub went : Run steps a (misses claimed missed ++ (tick claimed true ∷ [])) b
+  pub went : Run steps a (replicate missed (tick claimed false) ++ (tick claimed true ∷ [])) b
   pub sooner : (n : ℕ) → missed + 1 + (service b).wait n ≤ (service a).wait (n + 1)

@@ -1,15 +1,9 @@
--- At the end of the slice every wait is the worst.
-use Rattle.std.proofs.Common.{arith}
+-- A wait is exact in every phase.
 use Rattle.servers.proofs.GrantsExact.{exactly}
-use Rattle.servers.proofs.SliceExact.{worst_after, worst_whole}
 use Rattle.servers.proofs.fixed.Fixed.worst_phase.Goals as goal
 
-pub returns-then-self : goal.returns-then-self
-returns-then-self c =
-    let f = c.args.self.now in
-    record { within = c.if-self.true; attains = worst_after f.period f.slice f.some f.within c.if-self.true; exact = exactly }
+pub returns-then-self-clause-exact : goal.returns-then-self-clause-exact
+returns-then-self-clause-exact c = exactly
 
-pub returns-else-self : goal.returns-else-self
-returns-else-self c =
-    let f = c.args.self.now in
-    record { within = omega arith; attains = worst_whole f.period f.slice f.some f.within (omega arith); exact = exactly }
+pub returns-else-self-clause-exact : goal.returns-else-self-clause-exact
+returns-else-self-clause-exact c = exactly
