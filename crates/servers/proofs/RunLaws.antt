@@ -8,10 +8,7 @@ pub run_append : {S : Type 0} (steps : S → Bool → Bool → S → Type 0) (a 
 run_append steps a b c [] us r q = subst (λ x. Run steps x us c) r q
 run_append steps a b c (t ∷ ts) us r q = (r.0, r.1, run_append steps r.0 b c ts us r.2 q)
 
--- What is left to wait for falls with each tick.
-pub granted_less : (s t : Service) (g : Bool) (n : ℕ) → Ticks s g t → g ≡ true → t.wait n + 1 ≤ s.wait (n + 1)
-granted_less s t g n k e = let u : Ticks s true t = rw e at k in u.sooner n
-
+-- What is left to wait for falls with a tick that is not granted.
 pub passed_less : (s t : Service) (g : Bool) (n : ℕ) → Ticks s g t → g ≡ false → 0 < n → t.wait n + 1 ≤ s.wait n
 passed_less s t g n k e h = let u : Ticks s false t = rw e at k in u.sooner n h
 

@@ -1,9 +1,8 @@
 -- Where the waits of a fixed slice are the worst.
-use Rattle.std.proofs.Common.{◌≡◌, ℕ, ◌-◌, ◌*◌, ◌<◌, ◌≤◌, ap, ◌∙◌, ⊎_elim, mul-zero, zero-mul, arith}
+use Rattle.std.proofs.Common.{sym, ◌≡◌, ℕ, ◌-◌, ◌*◌, ◌<◌, ◌≤◌, ap, ◌∙◌, ⊎_elim, zero-mul, arith}
 use Rattle.std.proofs.lemmas.Bool.{cases_lt}
 use Rattle.servers.specs.Slices.{up, fresh, wait_at, worst_of}
-use Rattle.servers.specs.Rounding.{up_least}
-use Rattle.servers.specs.SliceLaws.{wait_soon, wait_late, wait_whole, fresh_gap}
+use Rattle.servers.specs.SliceLaws.{worst_none, wait_late, wait_whole, fresh_gap}
 
 module _ (p s : ℕ) (some : 0 < s) (fits : s ≤ p) where
   -- at the end of the slice the wait is the worst
@@ -13,10 +12,7 @@ module _ (p s : ℕ) (some : 0 < s) (fits : s ≤ p) where
       (λ k.
       let i = ap (fresh p s) (let i : n - (s - s) ≡ n = omega arith in i) in
       omega (arith, wait_late p s s n (omega arith), fresh_gap p s some fits n k))
-      (λ k.
-      let z : n ≡ 0 = omega arith in
-      let u : (p - s) * up n s ≡ 0 = ap (λ j. (p - s) * j) (let v : up n s ≡ 0 = let w = up_least s some n 0 (omega arith) in omega arith in v) ∙ mul-zero (p - s) in
-      omega (arith, wait_soon p s s n (omega arith)))
+      (λ k. let z : n ≡ 0 = omega arith in rw z (sym (worst_none p s some fits)))
       (cases_lt 0 n)
 
   -- where the slice is the period, so is any

@@ -10,9 +10,6 @@ use Rattle.servers.specs.Rounding.{up_rises, up_some, up_more, up_least}
 use Rattle.servers.specs.SliceLaws.{worst_rises, worst_none, worst_most, pace_none, pace_least, pace_rises, pace_adds}
 
 module _ (p s t g : ℕ) where
-  float_none : float_wait p s t g 0 ≡ 0
-  float_none = refl
-
   float_soon : (n : ℕ) → 0 < n → n ≤ s - g → float_wait p s t g n ≡ ((p - t) - (s - g)) + n
   float_soon n some h =
       cond-false (n == 0) 0 (cond (nat_lt (s - g) n) ((p - t) + worst_of p s (n - (s - g))) (((p - t) - (s - g)) + n)) (ne_eqb n 0 (λ e. omega arith))

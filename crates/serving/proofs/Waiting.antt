@@ -3,12 +3,12 @@ use Rattle.std.proofs.Common.{◌≡◌, ℕ, zero, suc, ◌+◌, ◌<◌, ◌�
 use Rattle.std.specs.List.{All}
 use Rattle.std.proofs.Math.ListN.{replicate}
 use Rattle.std.proofs.lemmas.Grind.{common_steps, replicate_next}
-use Rattle.std.proofs.lemmas.List.Elements.{All-nil, All-append, All-replicate}
+use Rattle.std.proofs.lemmas.List.Elements.{All-append, All-replicate}
 use Rattle.std.proofs.lemmas.List.{get_or_append_left, get_or_push, take_more_set, take_all}
 use Rattle.servers.specs.Figures.{ceiling}
 use Rattle.servers.specs.Service.{Model}
 use Rattle.servers.specs.Runs.{Tick, Run}
-use Rattle.servers.specs.Rounding.{le_or_lt}
+use Rattle.std.proofs.lemmas.Bool.{cases_lt}
 use Rattle.servers.proofs.RunLaws.{run_append}
 use Rattle.serving.specs.Served.{grant_times, latest, Served, tick, Waited}
 
@@ -47,9 +47,6 @@ module _ {S : Type 0} (m : Model S) where
     pub went : Run m.steps a (replicate missed (tick c false)) b
     pub sooner : (n : ℕ) → 0 < n → missed + (m.service b).wait n ≤ (m.service a).wait n
 
-  pub missed_none : (a : S) (c : Bool) → Missed a c 0 a
-  missed_none a c = record { went = refl; sooner = λ n h. omega arith }
-
   pub missed_more : (a b d : S) (c g : Bool) (k : ℕ) → Missed a c k b → m.steps b c g d → g ≡ false → Missed a c (k + 1) d
   missed_more a b d c g k w s e =
       let s' : m.steps b c false d = rw e at s in
@@ -77,18 +74,6 @@ module _ {S : Type 0} (m : Model S) where
     pub soon : (i : ℕ) → i < length times → get_or times i 0 ≤ (m.service a).wait (i + 1)
     pub sooner : (n : ℕ) → clock + (m.service b).wait n ≤ (m.service a).wait (length times + n)
 
-  pub part_none : (a : S) (c : Bool) → Part a c 0 [] a
-  part_none a c = record {
-    ticks = [];
-    went = refl;
-    all = All-nil (λ (t : Tick). t.claimed ≡ c);
-    when = refl;
-    ends = refl;
-    last = refl;
-    soon = λ i h. absurd (omega arith);
-    sooner = λ n. let e : 0 + n ≡ n = omega arith in rw e (omega arith);
-  }
-
   pub part_more : (a b d : S) (c : Bool) (clock k : ℕ) (times : List ℕ) → Part a c clock times b → Waited m.service m.steps b c k d → Part a c (clock + (k + 1)) (times ++ ((clock + (k + 1)) ∷ [])) d
   part_more a b d c clock k times p w =
       let us : List Tick = waiting c k in
@@ -102,12 +87,12 @@ module _ {S : Type 0} (m : Model S) where
         ends = omega (arith, length-append p.ticks us, waiting_length c k, p.ends);
         last = sym (latest_push 0 now times);
         soon = λ i h. ⊎_elim
+            (λ below. omega (arith, get_or_append_left times (now ∷ []) 0 i below, p.soon i below))
             (λ over.
             let e : length times ≡ i = omega arith in
             let n = ap (λ x. (m.service a).wait (x + 1)) e in
             omega (arith, get_or_push times now 0 i e, w.sooner 0, p.sooner 1))
-            (λ below. omega (arith, get_or_append_left times (now ∷ []) 0 i below, p.soon i below))
-            (le_or_lt (length times) i);
+            (cases_lt i (length times));
         sooner = λ n.
             let e = ap (m.service a).wait (let e : length (times ++ (now ∷ [])) + n ≡ length times + (n + 1) = omega arith in e) in
             omega (arith, w.sooner n, p.sooner (n + 1));

@@ -26,7 +26,7 @@ pub fn serve<S: Server>(server: &mut S, claimed: bool, times: &mut [u64]) -> Res
     ensures served { Serves S.Server.service S.Server.steps server.old claimed times.old result server.new times.new }
     ensures in_time { InTime S.Server.service S.Server.steps }
 {
-    let _worst = server.worst(times.len() as u64)?;
+    server.worst(times.len() as u64)?;
     let mut clock = 0;
     for time in times.iter_mut() {
         clock += wait_for_grant(server, claimed) + 1;
