@@ -10,7 +10,7 @@ graphs_sound g = record {
   time_pos = g.timed;
   from_task = g.starting;
   to_task = g.ending;
-  rank = λ v. get_or g.place v 0;
+  rank = λ v. get_or g.order.place v 0;
   forward = g.forward;
 }
 

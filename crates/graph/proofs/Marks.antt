@@ -1,8 +1,8 @@
 -- Marking the tasks that token-free edges lead to.
-use Rattle.std.proofs.Common.{◌≡◌, ℕ, zero, suc, ◌+◌, ◌<◌, ◌≤◌, Bool, true, false, cond, ◌⊎◌, List, [], ◌∷◌, length, get_or, set, replicate, sym, ap, ◌∙◌, subst, inl, inr, ⊎_elim, arith, length-set, get_or-set_other, get_or-set_same}
-use native.Mathlib.Decide.{ℕ_discrete}
+use Rattle.std.proofs.Common.{◌≡◌, ℕ, zero, suc, ◌+◌, ◌<◌, ◌≤◌, Bool, true, false, cond, ◌⊎◌, List, length, get_or, set, replicate, sym, ap, ◌∙◌, subst, inl, inr, ⊎_elim, refl, below_more, arith, length-set, get_or-set_other, get_or-set_same}
 use lib.ListN.{length-replicate}
-use Rattle.std.proofs.lemmas.Bool.{true≢false, false≢true}
+use Rattle.std.proofs.lemmas.Bool.{cases_eq, true≢false}
+use Rattle.std.proofs.lemmas.List.Sums.{sum_by-set}
 use Rattle.graph.specs.declared.parts.Edge.{Edge}
 use Rattle.graph.specs.Edges.{FreeEdge, Leads, last, more, OnRing}
 use Rattle.graph.specs.Reached.{Marked, MarksReached, Closed, unmarked, Reached}
@@ -13,23 +13,13 @@ leads_on es u v w e (last _ _ d f) g = more u v w d f (last v w e g)
 leads_on es u v w e (more _ x _ d f l) g = more u x w d f (leads_on es x v w e l g)
 
 unmarked_set : (m : List Bool) (i : ℕ) → i < length m → get_or m i false ≡ false → unmarked (set m i true) + 1 ≡ unmarked m
-unmarked_set [] i h e = absurd (omega arith)
-unmarked_set (b ∷ bs) zero h e = let z : cond b (zero) (suc zero) ≡ suc zero = ap (λ x. cond x zero (suc zero)) e in omega arith
-unmarked_set (b ∷ bs) (suc i) h e = let r = unmarked_set bs i (omega arith) e in omega arith
+unmarked_set m i h e = let z : cond (get_or m i false) zero (suc zero) ≡ 1 = ap (λ x. cond x zero (suc zero)) e in omega (arith, sum_by-set (λ b. cond b zero (suc zero)) m i true false h)
 
 marked_stays : (m : List Bool) (i u : ℕ) → i < length m → Marked m u → Marked (set m i true) u
-marked_stays m i u h e = go (ℕ_discrete u i)
-  where
-    go : Dec (u ≡ i) → Marked (set m i true) u
-    go (yes a) = subst (λ (k : ℕ). Marked (set m i true) k) (sym a) (get_or-set_same m i true false h)
-    go (no a) = get_or-set_other m i u true false a ∙ e
+marked_stays m i u h e = elim (cases_eq u i) [ inl a ↦ rw (a, get_or-set_same m i true false h) refl | inr a ↦ get_or-set_other m i u true false a ∙ e ]
 
 marked_new : (m : List Bool) (i u : ℕ) → Marked (set m i true) u → (u ≡ i) ⊎ Marked m u
-marked_new m i u e = go (ℕ_discrete u i)
-  where
-    go : Dec (u ≡ i) → (u ≡ i) ⊎ Marked m u
-    go (yes a) = inl a
-    go (no a) = inr (sym (get_or-set_other m i u true false a) ∙ e)
+marked_new m i u e = elim (cases_eq u i) [ inl a ↦ inl a | inr a ↦ inr (sym (get_or-set_other m i u true false a) ∙ e) ]
 
 -- A round of marking after its first k edges.
 pub record Growing (es : List Edge) (before : List Bool) (k : ℕ) (grew : Bool) (now : List Bool) : Type 0 where
@@ -39,16 +29,6 @@ pub record Growing (es : List Edge) (before : List Bool) (k : ℕ) (grew : Bool)
   pub fewer : unmarked now ≤ unmarked before
   pub grows : grew ≡ true → unmarked now < unmarked before
   pub done : grew ≡ false → Closed es k now
-
-pub growing_none : (es : List Edge) (m : List Bool) → length m ≡ 16 → Growing es m 0 false m
-growing_none es m h = record {
-  stays = λ u e. e;
-  right = λ v r. r;
-  wide = h;
-  fewer = omega arith;
-  grows = λ e. absurd (false≢true e);
-  done = λ _ e u w l. absurd (omega arith);
-}
 
 module _ (es : List Edge) (before : List Bool) (k : ℕ) (grew : Bool) (now : List Bool) (g : Growing es before k grew now) where
   pub grow_mark : (u w : ℕ) → FreeEdge es u w k → w < 16 → Marked now u → get_or now w false ≡ false → Growing es before (k + 1) true (set now w true)
@@ -74,15 +54,8 @@ module _ (es : List Edge) (before : List Bool) (k : ℕ) (grew : Bool) (now : Li
     wide = g.wide;
     fewer = g.fewer;
     grows = g.grows;
-    done = λ e d u w l f m. ⊎_elim (λ low. g.done e d u w low f m) (λ at. still u w (subst (λ (x : ℕ). FreeEdge es u w x) at f) m) (below d l);
+    done = λ e d u w l f m. below_more (λ (x : ℕ). FreeEdge es u w x → Marked now w) k (λ x low h. g.done e x u w low h m) (λ h. still u w h m) d l f;
   }
-    where
-      below : (d : ℕ) → d < k + 1 → (d < k) ⊎ (d ≡ k)
-      below d l = go (ℕ_discrete d k)
-        where
-          go : Dec (d ≡ k) → (d < k) ⊎ (d ≡ k)
-          go (yes a) = inr a
-          go (no a) = inl (grind arith)
 
 marked_none : (n u : ℕ) → Marked (replicate n false) u → ⊥
 marked_none zero u e = true≢false (sym e)

@@ -1,6 +1,8 @@
 -- An order of the tasks in which each token-free edge goes forward.
-use Rattle.std.specs.Prelude.{◌≡◌, ℕ, ◌<◌, ◌≤◌, List, length, slice_index, slice_set}
+use Rattle.std.specs.Prelude.{◌≡◌, ℕ, ◌<◌, ◌≤◌, List, length, slice_index}
+use Rattle.std.specs.List.{SwappedAt}
 use Rattle.graph.specs.declared.parts.Edge.{Edge}
+use Rattle.graph.specs.declared.order.Order.{Order}
 use Rattle.graph.specs.Edges.{edge_at}
 
 -- Edge e is token-free and leads into v, from a task that is not among the first p.
@@ -10,26 +12,26 @@ pub record Pending (es : List Edge) (place : List ℕ) (p v e : ℕ) : Type 0 wh
   pub none : (edge_at es e).tokens ≡ 0
   pub later : p ≤ slice_index place (edge_at es e).from
 
+-- v waits for one that is not among the first p.
+abbrev pub Waits : List Edge → List ℕ → ℕ → ℕ → Type 0
+Waits es place p v = (e : ℕ) × Pending es place p v e
+
 -- v waits for none but the first p.
 pub record Clear (es : List Edge) (place : List ℕ) (p v : ℕ) : Type 0 where
   pub all : (e : ℕ) → e < length es → (edge_at es e).to ≡ v → (edge_at es e).tokens ≡ 0 → slice_index place (edge_at es e).from < p
 
-pub record Next (es : List Edge) (n : ℕ) (order place : List ℕ) (p q : ℕ) : Type 0 where
+-- Place q, from p on, has a task that is clear.
+pub record Next (es : List Edge) (n : ℕ) (order : Order) (p q : ℕ) : Type 0 where
   pub since : p ≤ q
   pub within : q < n
-  pub clear : Clear es place p (slice_index order q)
+  pub clear : Clear es order.place p (slice_index order.list q)
 
--- The order and the places of n tasks are inverse to each other, and the token-free edges into the first p go forward.
-pub record Ordered (es : List Edge) (n : ℕ) (order place : List ℕ) (p : ℕ) : Type 0 where
-  pub listed : (q : ℕ) → q < n → slice_index order q < n
-  pub placed : (v : ℕ) → v < n → slice_index place v < n
-  pub found : (v : ℕ) → v < n → slice_index order (slice_index place v) ≡ v
-  pub back : (q : ℕ) → q < n → slice_index place (slice_index order q) ≡ q
+-- The token-free edges into the first p tasks go forward.
+pub record Ordered (es : List Edge) (place : List ℕ) (p : ℕ) : Type 0 where
   pub forward : (e : ℕ) → e < length es → (edge_at es e).tokens ≡ 0 → slice_index place (edge_at es e).to < p → slice_index place (edge_at es e).from < slice_index place (edge_at es e).to
-  pub wide_order : length order ≡ 16
-  pub wide_place : length place ≡ 16
 
 -- p and q have changed places.
-abbrev pub Swapped : List ℕ → List ℕ → ℕ → ℕ → List ℕ → List ℕ → Type 0
-Swapped order place p q order' place' =
-    (order' ≡ slice_set (slice_set order p (slice_index order q)) q (slice_index order p)) × (place' ≡ slice_set (slice_set place (slice_index order q) p) (slice_index order p) q)
+pub record Swapped (before : Order) (p q : ℕ) (after : Order) : Type 0 where
+  pub tasks : after.tasks ≡ before.tasks
+  pub list : SwappedAt before.list after.list p q
+  pub place : SwappedAt before.place after.place (slice_index before.list p) (slice_index before.list q)

@@ -1,5 +1,5 @@
 -- Marks on the tasks that token-free edges lead to.
-use Rattle.std.specs.Prelude.{◌≡◌, ℕ, ◌+◌, ◌<◌, Bool, true, false, cond, ◌⊎◌, List, [], ◌∷◌, length, slice_index_or}
+use Rattle.std.specs.Prelude.{◌≡◌, ℕ, ◌<◌, Bool, true, false, cond, ◌⊎◌, List, length, sum_by, slice_index_or}
 use Rattle.graph.specs.declared.parts.Edge.{Edge}
 use Rattle.graph.specs.Edges.{FreeEdge, Leads}
 
@@ -15,8 +15,7 @@ abbrev pub Closed : List Edge → ℕ → List Bool → Type 0
 Closed es k m = (e u w : ℕ) → e < k → FreeEdge es u w e → Marked m u → Marked m w
 
 abbrev pub unmarked : List Bool → ℕ
-unmarked [] = 0
-unmarked (b ∷ bs) = cond b 0 1 + unmarked bs
+unmarked m = sum_by (λ b. cond b 0 1) m
 
 -- One round of marking: what was marked stays so, what is marked rightly stays so; something new is marked, or nothing is left to mark.
 pub record Grown (es : List Edge) (before : List Bool) (grew : Bool) (after : List Bool) : Type 0 where

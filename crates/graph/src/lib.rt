@@ -1,10 +1,11 @@
 #![tactic(auto)]
 
+mod edges;
 pub mod figures;
 pub mod graph;
-pub mod graph_new;
 mod legal;
-mod order;
+pub mod order;
+mod ordering;
 pub mod origin;
 pub mod parts;
 pub mod rack_check;

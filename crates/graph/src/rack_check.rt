@@ -2,8 +2,8 @@ ghost use Rattle.graph.specs.Racked.{ChecksRack};
 
 use crate::figures::figures_at;
 use crate::graph::Graph;
-use crate::graph_new::refused;
 use faults::fault::Fault;
+use faults::layer::Layer;
 use faults::reason::Reason;
 use racks::rack::{Rack, no_place};
 
@@ -15,9 +15,10 @@ impl Graph {
         if rack.places() != self.tasks.len() {
             return Err(no_place());
         }
+        // A loop: `position` would answer the number of the task that the refusal names, and a `match` would ask for it again.
         for (v, task) in self.tasks.iter().enumerate() {
             if figures_at(rack, v, task.time).is_err() {
-                return Err(refused(Reason::Ceiling, self.origin.line(v)));
+                return Err(Layer::Graph.refuses(Reason::Ceiling, self.origin.line(v), 0));
             }
         }
         Ok(())

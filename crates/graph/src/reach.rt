@@ -1,51 +1,50 @@
 ghost use Rattle.std.specs.Prelude.{◌≡◌, ℕ, ◌<◌, true, false, length, MatchOption};
-ghost use Rattle.graph.specs.Edges.{Ends, Topmost, NoRing};
+ghost use Rattle.graph.specs.Edges.{Topmost, NoRing};
 ghost use Rattle.graph.specs.Reached.{Grown, Reached};
 
-use crate::parts::Edge;
+use crate::edges::Edges;
 
-// Marks each task to which a token-free edge leads from a marked one, and says whether there was one.
-fn grow(edges: &[Edge], marked: &mut [bool; 16]) -> bool
-    requires { Ends edges.now 16 }
-    ensures { Grown edges.now marked.old result marked.new }
-{
-    let mut more = false;
-    for edge in edges {
-        if edge.tokens == 0 && marked[edge.from] && !marked[edge.to] {
-            marked[edge.to] = true;
-            more = true;
-        }
-    }
-    more
-}
-
-// Marks the task and all to which token-free edges lead from it.
-fn reach_from(edges: &[Edge], task: usize) -> [bool; 16]
-    requires ends { Ends edges.now 16 }
-    requires there { task < 16 }
-    ensures { Reached edges.now task result }
-{
-    let mut marked = [false; 16];
-    marked[task] = true;
-    while grow(edges, &mut marked) {}
-    marked
-}
-
-// The first task that lies on a ring whose edges hold no token.
-pub(crate) fn first_on_ring(edges: &[Edge], tasks: usize) -> Option<usize>
-    requires ends { Ends edges.now 16 }
-    requires few { tasks < 17 }
-    ensures { MatchOption result (NoRing edges.now tasks) (Topmost edges.now tasks) }
-{
-    let mut found = None;
-    'search: for task in 0..tasks {
-        let marked = reach_from(edges, task);
-        for edge in edges {
-            if edge.tokens == 0 && edge.to == task && marked[edge.from] {
-                found = Some(task);
-                break 'search;
+impl Edges<'_> {
+    // Marks each task to which a token-free edge leads from a marked one, and says whether there was one.
+    fn grow(&self, marked: &mut [bool; 16]) -> bool
+        ensures { Grown self.now.list.now marked.old result marked.new }
+    {
+        let mut more = false;
+        // A loop: a mark decides which of the next edges mark, so that a fold would carry the marks beside the answer.
+        for edge in self.list {
+            if edge.tokens == 0 && marked[edge.from] && !marked[edge.to] {
+                marked[edge.to] = true;
+                more = true;
             }
         }
+        more
     }
-    found
+
+    // Marks the task and all to which token-free edges lead from it.
+    fn reach_from(&self, task: usize) -> [bool; 16]
+        requires { task < 16 }
+        ensures { Reached self.now.list.now task result }
+    {
+        let mut marked = [false; 16];
+        marked[task] = true;
+        while self.grow(&mut marked) {}
+        marked
+    }
+
+    // The first task that lies on a ring whose edges hold no token.
+    pub(crate) fn first_on_ring(&self) -> Option<usize>
+        ensures { MatchOption result (NoRing self.now.list.now self.now.tasks) (Topmost self.now.list.now self.now.tasks) }
+    {
+        let mut found = None;
+        'search: for task in 0..self.tasks {
+            let marked = self.reach_from(task);
+            for edge in self.list {
+                if edge.tokens == 0 && edge.to == task && marked[edge.from] {
+                    found = Some(task);
+                    break 'search;
+                }
+            }
+        }
+        found
+    }
 }

@@ -7,4 +7,4 @@ use Rattle.graph.proofs.graph.Graph.check_rack.Goals as goal
 
 pub returns-then-is_err : goal.returns-then-is_err
 returns-then-is_err g c =
-    above c.loop-v.v (c.refused.ensures ∙ ap (λ l. fault 12 Graph l 0) c.line.ensures) (search rules) (search rules) c.loop-v.invariant (search rules)
+    above c.loop-v.v (c.refuses.ensures ∙ ap (λ l. fault 12 Graph l 0) c.line.ensures) (search rules) (search rules) c.loop-v.invariant (search rules)

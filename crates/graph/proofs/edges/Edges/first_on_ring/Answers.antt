@@ -2,11 +2,11 @@
 use Rattle.std.proofs.Common.{ℕ, refl, arith, below_more}
 use Rattle.graph.specs.Edges.{edge_at, OnRing}
 use Rattle.graph.proofs.Marks.{ring_by, ring_back}
-use Rattle.graph.proofs.reach.first_on_ring.Goals as goal
+use Rattle.graph.proofs.edges.Edges.first_on_ring.Goals as goal
 
 pub search-preserved : goal.search-preserved
 search-preserved c =
-    let es = c.args.edges.now in
+    let es = c.args.self.now.list.now in
     let v : ℕ = c.search.task in (
       c.loop-edge.invariant.0,
       below_more (λ (u : ℕ). OnRing es u → ⊥) v c.search.invariant.1
@@ -15,7 +15,7 @@ search-preserved c =
 
 pub returns-then-marked-edge : goal.returns-then-marked-edge
 returns-then-marked-edge c =
-    let es = c.args.edges.now in
+    let es = c.args.self.now.list.now in
     let v : ℕ = c.search.task in
     let k : ℕ = c.loop-edge.edge-index in
     record {

@@ -1,6 +1,0 @@
--- A round of marking so far.
-use Rattle.graph.proofs.Marks.{Growing}
-use Rattle.graph.proofs.reach.grow.Given as goal
-
-abbrev pub invariant-loop-edge : goal.invariant-loop-edge
-invariant-loop-edge l = Growing l.edges l.initial.marked l.edge-index l.more l.marked

@@ -1,6 +1,0 @@
--- One task is marked at first.
-use Rattle.graph.proofs.Marks.{marks_one}
-use Rattle.graph.proofs.reach.reach_from.Goals as goal
-
-pub loop-init : goal.loop-init
-loop-init c = marks_one c.args.edges.now c.args.task 16 c.requires.there
