@@ -1,5 +1,6 @@
 #![tactic(auto)]
 
+use lexer::lines::Lines;
 use reader::room::Room;
 use report::report::report;
 use std::alloc::{AllocError, Global};
@@ -20,7 +21,7 @@ fn main(rt: HostRuntime) -> io::Result<()> {
     let mut cases = Vec::new(heap);
     rt.stdin().read_to_end(&mut cases)?;
     let mut out = Vec::new(heap);
-    for case in cases.split_inclusive(|byte| *byte == b'\n') {
+    for case in Lines::new(&cases) {
         let text = sheet_of(heap, case)?;
         report(&mut out, &text, Room::new(heap)?)?;
     }
