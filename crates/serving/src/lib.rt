@@ -13,6 +13,7 @@ fn wait_for_grant<S: Server>(server: &mut S, claimed: bool) -> u64
     requires { (S.Server.service server.old).wait 1 ≤ ceiling }
     ensures { Waited S.Server.service S.Server.steps server.old claimed result server.new }
 {
+    // Each call changes the server, which a chain's closure would hide from the proof: so a loop counts.
     let mut missed = 0;
     while !server.tick(claimed) {
         missed += 1;
