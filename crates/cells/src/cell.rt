@@ -13,7 +13,7 @@ pub fn number_in(t: Token<'_>, low: u32, high: u32) -> Result<u32, Fault>
     ensures { Meets result (bad (not (number low high t.entry.part.now)) 5 t.entry.line t.entry.field ∷ []) (λ n. n ≡ value t.entry.part.now) }
 {
     number_of(t.part)
-        .filter(|n| low <= *n && *n <= high)
+        .filter(|n| (low..=high).contains(n))
         .ok_or(t.refused(Reason::NumberRange))
 }
 

@@ -12,7 +12,7 @@ pub fn worked_figures() -> usize
     19
 }
 
-// The same of the worked finish bounds.
+// The same of the worked finish bounds. One function for both would want a trait for the list that each speaks of, and be no plainer.
 pub fn worked_bounds() -> usize
     ensures count { result ≡ length starred_bounds }
     ensures agree { all_agree starred_bounds ≡ true }

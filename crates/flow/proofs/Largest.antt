@@ -1,6 +1,6 @@
 -- The largest of finitely many numbers exists.
 use Rattle.std.proofs.Common.{◌≡◌, ℕ, zero, suc, ◌<◌, ◌≤◌, ◌⊎◌, refl, subst, inl, inr, arith}
-use native.Mathlib.Decide.{dec_le}
+use Rattle.servers.specs.Rounding.{le_or_lt}
 
 -- the largest of b and f e over those e below m that P picks
 pub record Largest (P : ℕ → Type 0) (f : ℕ → ℕ) (b m : ℕ) : Type 0 where
@@ -9,17 +9,10 @@ pub record Largest (P : ℕ → Type 0) (f : ℕ → ℕ) (b m : ℕ) : Type 0 w
   pub upper : (e : ℕ) → e < m → P e → f e ≤ value
   pub met : (value ≡ b) ⊎ ((e : ℕ) × (e < m) × P e × (value ≡ f e))
 
-pub le_or : (a b : ℕ) → (a ≤ b) ⊎ (b < a)
-le_or a b = go (dec_le a b)
-  where
-    go : Dec (a ≤ b) → (a ≤ b) ⊎ (b < a)
-    go (yes h) = inl h
-    go (no h) = inr (omega arith)
-
 module _ (P : ℕ → Type 0) (f : ℕ → ℕ) (b : ℕ) where
   -- what holds below m, and of m, holds below suc m
   below : (m a : ℕ) → ((e : ℕ) → e < m → P e → f e ≤ a) → (P m → f m ≤ a) → (e : ℕ) → e < suc m → P e → f e ≤ a
-  below m a all here e h p = go (le_or m e)
+  below m a all here e h p = go (le_or_lt m e)
     where
       go : (m ≤ e) ⊎ (e < m) → f e ≤ a
       go (inl k) = let q : m ≡ e = omega arith in subst (λ (x : ℕ). P x → f x ≤ a) q here p
@@ -52,7 +45,7 @@ module _ (P : ℕ → Type 0) (f : ℕ → ℕ) (b : ℕ) where
   }
 
   next : (m : ℕ) → Largest P f b m → Dec (P m) → Largest P f b (suc m)
-  next m l (yes p) = take m l p (le_or (f m) l.value)
+  next m l (yes p) = take m l p (le_or_lt (f m) l.value)
   next m l (no n) = skip m l n
 
   pub largest : ((e : ℕ) → Dec (P e)) → (m : ℕ) → Largest P f b m

@@ -3,12 +3,12 @@ use Rattle.std.proofs.Common.{◌≡◌, ℕ, zero, suc, ◌<◌, ◌≤◌, ◌
 use native.Mathlib.Nat.{le-max_left, le-max_right, max-eq_left, max-eq_right}
 use Rattle.flow.specs.Finish.{ReadyLargest, finish}
 use Rattle.flow.specs.Lone.{lone, at_times, from_arrival, from_arrivals, LoneBounds}
-use Rattle.flow.proofs.Largest.{le_or}
+use Rattle.servers.specs.Rounding.{le_or_lt}
 
 module _ (cost : ℕ → ℕ) (times : List ℕ) (i : ℕ) where
   covers : (j k : ℕ) → k ≤ j → from_arrival cost times i k ≤ from_arrivals cost times i j
   covers zero k h = let q : k ≡ 0 = omega arith in rw q (omega arith)
-  covers (suc j) k h = go (le_or k j) (covers j k)
+  covers (suc j) k h = go (le_or_lt k j) (covers j k)
     where
       go : (k ≤ j) ⊎ (j < k) → (k ≤ j → from_arrival cost times i k ≤ from_arrivals cost times i j) → from_arrival cost times i k ≤ from_arrivals cost times i (suc j)
       go (inl l) below = omega (arith, below l, le-max_left (from_arrivals cost times i j) (from_arrival cost times i (suc j)))
@@ -19,7 +19,7 @@ module _ (cost : ℕ → ℕ) (times : List ℕ) (i : ℕ) where
 
   met : (j : ℕ) → Met j
   met zero = (0, omega arith, refl)
-  met (suc j) = go (le_or (from_arrival cost times i (suc j)) (from_arrivals cost times i j)) (met j)
+  met (suc j) = go (le_or_lt (from_arrival cost times i (suc j)) (from_arrivals cost times i j)) (met j)
     where
       go : (from_arrival cost times i (suc j) ≤ from_arrivals cost times i j) ⊎ (from_arrivals cost times i j < from_arrival cost times i (suc j)) → Met j → Met (suc j)
       go (inl l) (k, h, q) = (k, omega arith, max-eq_left l ∙ q)

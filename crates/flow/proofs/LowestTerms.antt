@@ -1,7 +1,7 @@
 -- A ratio has one form without a common divisor.
 use Rattle.std.proofs.Common.{◌≡◌, ℕ, zero, suc, ◌+◌, ◌-◌, ◌*◌, ◌<◌, ◌≤◌, ◌⊎◌, sym, refl, ◌∙◌, inl, inr, mul-le-mul_right, mul_comm, mul-le-mul_left, one-mul, mul-zero, zero-mul, mul-one, mul-add, le_of_mul-le-mul_right, arith}
 use native.Mathlib.Nat.{mul-sub}
-use Rattle.flow.proofs.Largest.{le_or}
+use Rattle.servers.specs.Rounding.{le_or_lt}
 
 abbrev pub Lowest : ℕ → ℕ → Type 0
 Lowest c p = (d m k : ℕ) → c ≡ d * m → p ≡ d * k → d ≡ 1
@@ -25,7 +25,7 @@ turned a b c d h e l =
     le_of_mul-le-mul_right z h
 
 no_part : (c p : ℕ) → 1 ≤ p → c * p ≡ 0 → c ≡ 0
-no_part c p h e = go (le_or c 0)
+no_part c p h e = go (le_or_lt c 0)
   where
     go : (c ≤ 0) ⊎ (0 < c) → c ≡ 0
     go (inl l) = omega arith
@@ -47,7 +47,7 @@ one_form (suc fuel) zero p c' p' f h h' e low low' =
     let z : c' ≡ 0 = no_part c' p h (omega (arith, zero-mul p')) in
     (sym z, no_more 0 p refl low ∙ sym (no_more c' p' z low'))
 one_form (suc fuel) (suc c) p c' p' f h h' e low low' =
-    go (le_or p (suc c)) (le_or p' c') (one_form fuel (suc c - p) p (c' - p') p') (one_form fuel (suc c) (p - suc c) c' (p' - c'))
+    go (le_or_lt p (suc c)) (le_or_lt p' c') (one_form fuel (suc c - p) p (c' - p') p') (one_form fuel (suc c) (p - suc c) c' (p' - c'))
   where
     Left : Type 0
     Left = suc c - p + p ≤ fuel → 1 ≤ p → 1 ≤ p' → (suc c - p) * p' ≡ (c' - p') * p → Lowest (suc c - p) p → Lowest (c' - p') p' → (suc c - p ≡ c' - p') × (p ≡ p')

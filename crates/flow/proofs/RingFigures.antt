@@ -1,10 +1,13 @@
 -- Start figures, cycle and parts are the only ones, and one task alone has them.
-use Rattle.std.proofs.Common.{◌≡◌, ℕ, ◌+◌, ◌*◌, ◌<◌, ◌≤◌, ◌⊎◌, List, [], ◌∷◌, map, length, get_or, sym, ap, ◌∙◌, subst, inl, inr, mul_assoc, mul_comm, mul-le-mul_left, mul-zero, zero-mul, mul-one, mul_right_comm, le_of_mul-le-mul_right, arith}
+use Prim.Native.Nat.{◌∣◌}
+use Rattle.std.proofs.Common.{◌≡◌, ℕ, ◌+◌, ◌*◌, ◌<◌, ◌≤◌, ◌⊎◌, List, [], ◌∷◌, map, length, get_or, sym, ap, ◌∙◌, subst, inl, inr, mul_assoc, mul_comm, mul-le-mul_left, mul_right_comm, le_of_mul-le-mul_right, arith}
+use Rattle.std.proofs.Math.Nat.{dvd-mul_right, one-dvd}
+use Rattle.std.proofs.lemmas.Nat.Gcd.{dvd_antisymm}
 use Rattle.servers.specs.Service.{Service}
 use Rattle.flow.specs.Nets.{Net, Sound}
 use Rattle.flow.specs.Rings.{Hop, edge, link, into, pace_of, lead_and_pace_of, weight, tokens_on, Chain, end, on, Ring, Cycle, Starts}
 use Rattle.flow.specs.RingLaws.{OneStart, OneCycle, LoneFigures}
-use Rattle.flow.proofs.Largest.{le_or}
+use Rattle.servers.specs.Rounding.{le_or_lt}
 use Rattle.flow.proofs.LowestTerms.{one_form}
 
 pub one_start : OneStart
@@ -18,7 +21,7 @@ climbs n sound (on (edge e) h c) z = omega (arith, sound.forward e h (omega arit
 climbs n sound (on (link u) h c) z = absurd (omega arith)
 
 tokened : (n : Net) → Sound n → (hops : List Hop) → Ring n hops → 1 ≤ tokens_on n hops
-tokened n sound hops r = go (le_or (tokens_on n hops) 0)
+tokened n sound hops r = go (le_or_lt (tokens_on n hops) 0)
   where
     go : (tokens_on n hops ≤ 0) ⊎ (0 < tokens_on n hops) → 1 ≤ tokens_on n hops
     go (inl l) = absurd (omega (arith, climbs n sound r.closed (omega arith)))
@@ -59,16 +62,7 @@ module _ (n : Net) (one : n.tasks ≡ 1) (none : n.edges ≡ 0) where
   shape (on (link w) h (on (link z) k c)) once = absurd (once 0 1 (omega arith) (omega arith) (let q : w ≡ z = omega arith in q))
 
 pub lowest_one : (d k : ℕ) → 1 ≡ d * k → d ≡ 1
-lowest_one d k e = go (le_or k 0) (le_or d 1)
-  where
-    go : (k ≤ 0) ⊎ (0 < k) → (d ≤ 1) ⊎ (1 < d) → d ≡ 1
-    go (inl h) l = let z : k ≡ 0 = omega arith in absurd (omega (arith, ap (λ (m : ℕ). d * m) z, mul-zero d))
-    go (inr h) (inl l) = low (le_or d 0)
-      where
-        low : (d ≤ 0) ⊎ (0 < d) → d ≡ 1
-        low (inl b) = let z : d ≡ 0 = omega arith in absurd (omega (arith, ap (λ (m : ℕ). m * k) z, zero-mul k))
-        low (inr b) = omega arith
-    go (inr h) (inr l) = absurd (omega (arith, mul-le-mul_left d h, mul-one d))
+lowest_one d k e = dvd_antisymm (subst (λ (m : ℕ). d ∣ m) (sym e) (dvd-mul_right d k)) (one-dvd d)
 
 own_start : (n : Net) (service : ℕ → Service) (cycle : ℕ) → n.edges ≡ 0 → Starts n service cycle 1 (lead_and_pace_of n service)
 own_start n service cycle none = record {

@@ -7,46 +7,36 @@ ghost use Rattle.flow.specs.VerdictLaws.{KeepsByMargin, KeepsByCycle, OneRounded
 
 // The finish rule: the net of an accepted graph is sound, and a firing has one finish bound, which exists once the arrivals that it needs were accepted.
 // The bound does not fall with the firing's number, and is not later than the rule with lead and pace in place of the worst wait.
-pub fn finish_rule() -> u8
+pub fn finish_rule()
     ensures sound { GraphsSound }
     ensures one { OneBound }
     ensures exists { BoundExists }
     ensures rises { BoundRises }
     ensures later { LeadAndPaceLater }
-{
-    0
-}
+{}
 
 // The finish bounds of one task alone, in a form that computes.
-pub fn lone_bounds() -> u8
+pub fn lone_bounds()
     ensures { LoneBounds }
-{
-    0
-}
+{}
 
 // Numbers that meet the inequalities of the start figures show that no ring is slower than cycle over parts.
-pub fn potential_bounds_rings() -> u8
+pub fn potential_bounds_rings()
     ensures { Potential }
-{
-    0
-}
+{}
 
 // A net has one cycle over parts, and a task one start figure; a task alone has both.
-pub fn ring_figures() -> u8
+pub fn ring_figures()
     ensures start { OneStart }
     ensures cycle { OneCycle }
     ensures lone { LoneFigures }
-{
-    0
-}
+{}
 
 // The verdict is "keeps up" exactly when the margin is not below 0, which is when cycle over parts is at most the goal.
 // A task's load is one number.
-pub fn verdict_says_goal() -> u8
+pub fn verdict_says_goal()
     ensures margin { KeepsByMargin }
     ensures cycle { KeepsByCycle }
     ensures rounded { OneRounded }
     ensures load { OneLoad }
-{
-    0
-}
+{}

@@ -1,6 +1,7 @@
 -- The columns of a sheet's tables, by the words of their headings.
-use Rattle.std.specs.Prelude.{◌≡◌, ℕ, List, Some, None, codes, Option, ◌≢◌}
+use Rattle.std.specs.Prelude.{◌≡◌, ◌≢◌, ℕ, List, Result, MatchResult, codes}
 use Rattle.headings.specs.declared.column.Column.{Column}
+use Rattle.headings.specs.declared.column.UnknownColumn.{UnknownColumn}
 use Rattle.headings.specs.declared.column.Column.TheVariants.{Goal, Task, Time, Kind, Period, Slice, Phase, Inner, Inslice, Inphase, Inlet, From, To, Tokens}
 
 abbrev pub column_word : Column → List ℕ
@@ -19,7 +20,6 @@ column_word From = codes "from"
 column_word To = codes "to"
 column_word Tokens = codes "tokens"
 
--- The column that a word names, or none.
-abbrev pub ColumnOf : List ℕ → Option Column → Type 0
-ColumnOf w (Some c) = w ≡ column_word c
-ColumnOf w None = (c : Column) → w ≢ column_word c
+-- The result is the column that this word heads, or the error where it heads none.
+abbrev pub Heads : List ℕ → Result Column UnknownColumn → Type 0
+Heads w r = MatchResult r (λ c. w ≡ column_word c) (λ _. (c : Column) → w ≢ column_word c)

@@ -1,4 +1,4 @@
-ghost use Rattle.headings.specs.Columns.{ColumnOf};
+ghost use Rattle.headings.specs.Columns.{Heads};
 
 // The columns of a sheet's tables.
 #[derive(Clone, Copy, PartialEq, Eq, Debug)]
@@ -19,25 +19,33 @@ pub enum Column {
     Tokens,
 }
 
+// A word that names no column.
+#[derive(Clone, Copy, PartialEq, Eq, Debug)]
+pub struct UnknownColumn;
+
 // The column that a word of a heading names.
-pub fn column_of(word: &[u8]) -> Option<Column>
-    ensures { ColumnOf word.now result }
-{
-    match word {
-        b"goal" => Some(Column::Goal),
-        b"task" => Some(Column::Task),
-        b"time" => Some(Column::Time),
-        b"kind" => Some(Column::Kind),
-        b"period" => Some(Column::Period),
-        b"slice" => Some(Column::Slice),
-        b"phase" => Some(Column::Phase),
-        b"inner" => Some(Column::Inner),
-        b"inslice" => Some(Column::Inslice),
-        b"inphase" => Some(Column::Inphase),
-        b"inlet" => Some(Column::Inlet),
-        b"from" => Some(Column::From),
-        b"to" => Some(Column::To),
-        b"tokens" => Some(Column::Tokens),
-        _ => None,
+impl TryFrom<&[u8]> for Column {
+    type Error = UnknownColumn;
+
+    ghost try_from_gives = { λ word r. Heads word.now r };
+
+    fn try_from(word: &[u8]) -> Result<Column, UnknownColumn> {
+        match word {
+            b"goal" => Ok(Column::Goal),
+            b"task" => Ok(Column::Task),
+            b"time" => Ok(Column::Time),
+            b"kind" => Ok(Column::Kind),
+            b"period" => Ok(Column::Period),
+            b"slice" => Ok(Column::Slice),
+            b"phase" => Ok(Column::Phase),
+            b"inner" => Ok(Column::Inner),
+            b"inslice" => Ok(Column::Inslice),
+            b"inphase" => Ok(Column::Inphase),
+            b"inlet" => Ok(Column::Inlet),
+            b"from" => Ok(Column::From),
+            b"to" => Ok(Column::To),
+            b"tokens" => Ok(Column::Tokens),
+            _ => Err(UnknownColumn),
+        }
     }
 }

@@ -1,10 +1,10 @@
-ghost use Rattle.std.specs.Prelude.{◌≡◌, true, map, Decides};
+ghost use Rattle.std.specs.Prelude.{◌≡◌, ◌↔◌, map, IsTrue};
 ghost use Rattle.cells.specs.Bytes.{well};
 ghost use Rattle.lexer.specs.Text.{fields};
 ghost use Rattle.headings.specs.Columns.{column_word};
 ghost use Rattle.headings.specs.Tables.{table_columns, heading};
 
-use crate::column::{Column, column_of};
+use crate::column::Column;
 use lexer::fields::Fields;
 use lexer::token::Shape;
 
@@ -39,34 +39,22 @@ impl Table {
     }
 }
 
-// Whether a word names this column.
-fn is_column(word: &[u8], column: Column) -> bool
-    ensures { Decides result (word.now ≡ column_word column) }
-{
-    match column_of(word) {
-        Some(named) => named == column,
-        None => false,
-    }
-}
-
 // Whether the fields of a line name these columns, in order.
 fn names_columns(line: &[u8], columns: &[Column]) -> bool
-    ensures { Decides result (fields line.now ≡ map column_word columns.now) }
+    ensures { IsTrue result ↔ (fields line.now ≡ map column_word columns.now) }
 {
     let mut rest = Fields::new(line, 0);
     for column in columns {
-        let token = rest.next();
-        if !is_column(token.part, *column) {
+        if Column::try_from(rest.next().part) != Ok(*column) {
             return false;
         }
     }
-    let last = rest.next();
-    last.shape == Shape::LineEnd
+    rest.next().shape == Shape::LineEnd
 }
 
 // Whether a line in order is the heading of this table.
 pub fn is_heading(line: &[u8], table: Table) -> bool
-    ensures { well line.now ≡ true → Decides result (line.now ≡ heading table) }
+    ensures { IsTrue (well line.now) → (IsTrue result ↔ (line.now ≡ heading table)) }
 {
     names_columns(line, table.columns())
 }

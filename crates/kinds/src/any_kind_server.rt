@@ -23,6 +23,7 @@ impl AnyKind {
     }
 }
 
+// A match a method: one helper for them would take a closure over `&dyn Server`, with a contract of its own, and be no plainer.
 impl Server for AnyKind {
     ghost service = { any_service };
 

@@ -4,7 +4,6 @@ use Rattle.faults.specs.declared.fault.Fault.{Fault}
 use Rattle.servers.specs.Service.{Service}
 use Rattle.layers.specs.InnerService.{inner_service, InnerSteps}
 use Rattle.servers.specs.Settings.{Makes, LegalFixed, IsFixed}
-use Rattle.layers.specs.declared.inner.Inner.{Inner}
 use Rattle.servers.specs.declared.settings.Settings.{Settings}
 use Rattle.layers.specs.declared.stack.Stack.{Stack}
 use Rattle.layers.specs.declared.stack.Stack.TheVariants.{Bare, Layered}
@@ -15,8 +14,9 @@ stack_service service (Layered s) = inner_service service s
 
 -- A tick is one of what stands there, and leaves the layer in its place.
 abbrev pub StackSteps : {S : Type 0} → (S → Bool → Bool → S → Type 0) → Stack S → Bool → Bool → Stack S → Type 0
-StackSteps {S} steps (Bare a) c g t = (b : S) × (t ≡ Bare b) × steps a c g b
-StackSteps {S} steps (Layered a) c g t = (b : Inner S) × (t ≡ Layered b) × InnerSteps steps a c g b
+StackSteps steps (Bare a) c g (Bare b) = steps a c g b
+StackSteps steps (Layered a) c g (Layered b) = InnerSteps steps a c g b
+StackSteps _ _ _ _ _ = ⊥
 
 -- 0 0 0
 abbrev pub NoLayer : Settings → Type 0

@@ -1,6 +1,6 @@
 -- One service kept within another keeps the laws.
-use Rattle.std.proofs.Common.{◌≡◌, ℕ, ◌+◌, ◌-◌, ◌≤◌, Bool, true, false, ap, ◌∙◌, arith}
-use Rattle.servers.specs.Service.{Service, Laws, Sooner, Ticks, Model}
+use Rattle.std.proofs.Common.{◌≡◌, ◌+◌, ◌-◌, Bool, true, false, ap, ◌∙◌, arith}
+use Rattle.servers.specs.Service.{Service, Laws, Sooner, Ticks}
 use Rattle.servers.specs.FixedService.{fixed_service}
 use Rattle.layers.specs.InnerService.{within, Layered, inner_service, InnerSteps}
 use Rattle.layers.specs.declared.inner.Inner.{Inner}
@@ -51,19 +51,18 @@ within_ticks b b' s s' g bl sl t u = record {
   same_pace = λ n. t.same_pace (s'.pace n) ∙ ap b.pace (u.same_pace n);
 }
 
-pub worst_least : (p : Service) → Laws p → (n : ℕ) → n ≤ p.worst n
-worst_least p l n = omega (arith, l.wait_least n, l.wait_most n)
-
 -- A slice layered over a service, on a tick that is granted below or not.
 pub layered_ticks : (b b' : Service) (x y : Fixed) (low c g : Bool) → Laws b' → Ticks b low b' → Layered low x c g y → Ticks (within b (fixed_service x)) g (within b' (fixed_service y))
 layered_ticks b b' x y true c g bl t m = within_ticks b b' (fixed_service x) (fixed_service y) g bl (fixed_laws x) t (fixed_moves x y c g m)
 layered_ticks b b' x y false c g bl t m = rw (m.0, m.1) (within_waits b b' (fixed_service x) (fixed_laws x) t)
 
 -- A layer over any server.
-module _ {S : Type 0} (m : Model S) where
-  pub inner_laws : (s : Inner S) → Laws (inner_service m.service s)
-  inner_laws s = within_laws (m.service s.below) (fixed_service s.slice) (m.keeps s.below) (fixed_laws s.slice)
+module _ {S : Type 0} {service : S → Service} (keeps : (s : S) → Laws (service s)) where
+  pub inner_laws : (s : Inner S) → Laws (inner_service service s)
+  inner_laws s = within_laws (service s.below) (fixed_service s.slice) (keeps s.below) (fixed_laws s.slice)
 
-  pub inner_moves : (a b : Inner S) (c g : Bool) → InnerSteps m.steps a c g b → Ticks (inner_service m.service a) g (inner_service m.service b)
-  inner_moves a b c g x =
-      layered_ticks (m.service a.below) (m.service b.below) a.slice b.slice x.0 c g (m.keeps b.below) (m.moves a.below b.below c x.0 x.1) x.2
+  pub inner_moves :
+      {steps : S → Bool → Bool → S → Type 0} → ((a b : S) (c g : Bool) → steps a c g b → Ticks (service a) g (service b)) →
+      (a b : Inner S) (c g : Bool) → InnerSteps steps a c g b → Ticks (inner_service service a) g (inner_service service b)
+  inner_moves moves a b c g x =
+      layered_ticks (service a.below) (service b.below) a.slice b.slice x.0 c g (keeps b.below) (moves a.below b.below c x.0 x.1) x.2

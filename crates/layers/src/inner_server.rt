@@ -23,9 +23,9 @@ impl<S: Server> Server for Inner<S> {
 
     ghost steps = { InnerSteps S.Server.steps };
 
-    ghost keeps = { inner_laws (record { service = S.Server.service; steps = S.Server.steps; keeps = S.Server.keeps; moves = S.Server.moves }) };
+    ghost keeps = { inner_laws S.Server.keeps };
 
-    ghost moves = { inner_moves (record { service = S.Server.service; steps = S.Server.steps; keeps = S.Server.keeps; moves = S.Server.moves }) };
+    ghost moves = { inner_moves S.Server.keeps S.Server.moves };
 
     fn tick(&mut self, claimed: bool) -> bool {
         if self.below.tick(claimed) {

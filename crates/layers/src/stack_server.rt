@@ -15,18 +15,19 @@ impl<S: Drop> Stack<S> {
         if layer.period == 0 && layer.slice == 0 && layer.phase == 0 {
             return Ok(Stack::Bare(below));
         }
-        Ok(Stack::Layered(Inner::new(below, layer, line)?))
+        Inner::new(below, layer, line).map(Stack::Layered)
     }
 }
 
+// A match a method: one helper for them would take a closure over `&dyn Server`, with a contract of its own, and be no plainer.
 impl<S: Server> Server for Stack<S> {
     ghost service = { stack_service S.Server.service };
 
     ghost steps = { StackSteps S.Server.steps };
 
-    ghost keeps = { stack_laws (record { service = S.Server.service; steps = S.Server.steps; keeps = S.Server.keeps; moves = S.Server.moves }) };
+    ghost keeps = { stack_laws S.Server.keeps };
 
-    ghost moves = { stack_moves (record { service = S.Server.service; steps = S.Server.steps; keeps = S.Server.keeps; moves = S.Server.moves }) };
+    ghost moves = { stack_moves S.Server.keeps S.Server.moves };
 
     fn tick(&mut self, claimed: bool) -> bool {
         match self {

@@ -1,8 +1,8 @@
 ghost use Rattle.std.specs.Prelude.{◌≡◌};
 ghost use Rattle.faults.specs.declared.layer.Layer.TheVariants.{Reader};
 
-use faults::by_reader::refused;
 use faults::fault::Fault;
+use faults::layer::Layer;
 use faults::reason::Reason;
 
 // What a token is: a word begins with a letter, a number text with a digit.
@@ -27,6 +27,6 @@ impl Token<'_> {
     pub fn refused(&self, reason: Reason) -> Fault
         ensures { result ≡ record { reason = reason; layer = Reader; line = self.now.line; field = self.now.field } }
     {
-        refused(reason, self.line, self.field)
+        Layer::Reader.refuses(reason, self.line, self.field)
     }
 }

@@ -1,7 +1,7 @@
 ghost use Rattle.std.specs.Prelude.{◌≤◌};
 
 // The name of a task: up to 12 bytes, kept in place, so that a sheet does not hold on to the text that it was read from.
-// The length stands beside the bytes, since reading never allocates and a name is copied with its task, which no growing text is.
+// The length stands beside the bytes: reading never allocates, a name is copied with its task, as no ArrayVec is, and holds any bytes, as no ArrayString does.
 #[derive(Clone, Copy)]
 pub struct Name {
     pub(crate) bytes: [u8; 12],

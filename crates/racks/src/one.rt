@@ -1,4 +1,6 @@
-ghost use Rattle.std.specs.Prelude.{◌≡◌};
+ghost use Rattle.std.specs.Prelude.{◌≡◌, ◌<◌, MatchResult};
+ghost use Rattle.faults.specs.Faults.{fault};
+ghost use Rattle.faults.specs.declared.layer.Layer.TheVariants.{Runner as AtRunner};
 ghost use Rattle.std.proofs.Common.{rules};
 
 use crate::rack::{Rack, no_place};
@@ -9,6 +11,13 @@ use servers::server::Server;
 #[derive(Drop)]
 pub struct One<S> {
     pub server: S,
+}
+
+// Place 0 is there, and no other.
+fn only(place: usize) -> Result<(), Fault>
+    ensures { MatchResult result (λ _. place ≡ 0) (λ e. (e ≡ fault 13 AtRunner 0 0) × (0 < place)) }
+{
+    if place == 0 { Ok(()) } else { Err(no_place()) }
 }
 
 impl<S: Server> Rack for One<S> {
@@ -31,30 +40,22 @@ impl<S: Server> Rack for One<S> {
     }
 
     fn tick(&mut self, place: usize, claimed: bool) -> Result<bool, Fault> {
-        if place != 0 {
-            return Err(no_place());
-        }
+        only(place)?;
         Ok(self.server.tick(claimed))
     }
 
     fn worst(&self, place: usize, n: u64) -> Result<u64, Fault> {
-        if place != 0 {
-            return Err(no_place());
-        }
+        only(place)?;
         self.server.worst(n)
     }
 
     fn lead(&self, place: usize) -> Result<u64, Fault> {
-        if place != 0 {
-            return Err(no_place());
-        }
+        only(place)?;
         self.server.lead()
     }
 
     fn pace(&self, place: usize, n: u64) -> Result<u64, Fault> {
-        if place != 0 {
-            return Err(no_place());
-        }
+        only(place)?;
         self.server.pace(n)
     }
 }

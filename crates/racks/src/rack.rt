@@ -47,10 +47,5 @@ pub trait Rack {
 pub fn no_place() -> Fault
     ensures { result ≡ fault 13 AtRunner 0 0 }
 {
-    Fault {
-        reason: Reason::Missing,
-        layer: Layer::Runner,
-        line: 0,
-        field: 0,
-    }
+    Layer::Runner.refuses(Reason::Missing, 0, 0)
 }

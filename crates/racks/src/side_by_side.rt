@@ -15,25 +15,18 @@ pub struct SideBySide<A, B> {
     pub second: B,
 }
 
-// A place of two racks side by side, as a place of one of them.
-enum Side {
-    First(usize),
-    Second(usize),
-}
-
-// The first rack has `split` places. The last number of a usize is no place, since the places are counted by one.
-fn side_of(split: usize, place: usize) -> Result<Side, Fault>
+// The place of the second rack that a place of both is, or none where it is one of the first, which has `split` places.
+// The last number of a usize is no place, since the places are counted by one.
+fn in_second(split: usize, place: usize) -> Result<Option<usize>, Fault>
     ensures { MatchResult result (OnSide split place) (λ e. (e ≡ fault 13 AtRunner 0 0) × (place ≡ 2 ^ 64 - 1) × (split ≤ place)) }
 {
-    if place < split {
-        return Ok(Side::First(place));
-    }
     if place == usize::MAX {
         return Err(no_place());
     }
-    Ok(Side::Second(place - split))
+    Ok(place.checked_sub(split))
 }
 
+// A match a method: closures for both sides would name both calls as often, with a contract of their own, and be no plainer.
 impl<A: Rack, B: Rack> Rack for SideBySide<A, B> {
     ghost places = { λ s. places_beside (A.Rack.places s.first) (B.Rack.places s.second) };
 
@@ -41,11 +34,11 @@ impl<A: Rack, B: Rack> Rack for SideBySide<A, B> {
 
     ghost steps = { λ s k c g t. Sided A.Rack.steps B.Rack.steps (A.Rack.places s.first) s.first s.second k c g t.first t.second };
 
-    ghost keeps = { λ s. beside_keeps _ _ _ _ (A.Rack.keeps s.first) (B.Rack.keeps s.second) };
+    ghost keeps = { beside_keeps A.Rack.keeps B.Rack.keeps };
 
-    ghost moves = { λ s t. beside_moves A.Rack.places A.Rack.service B.Rack.service A.Rack.steps B.Rack.steps A.Rack.stays A.Rack.moves B.Rack.moves s.first t.first s.second t.second };
+    ghost moves = { beside_moves A.Rack.stays A.Rack.moves B.Rack.moves };
 
-    ghost others = { λ s t. beside_others A.Rack.places A.Rack.service B.Rack.service A.Rack.steps B.Rack.steps A.Rack.stays B.Rack.places A.Rack.others B.Rack.others s.first t.first s.second t.second };
+    ghost others = { beside_others A.Rack.stays A.Rack.others B.Rack.others };
 
     ghost stays = { Prim.search rules };
 
@@ -56,30 +49,30 @@ impl<A: Rack, B: Rack> Rack for SideBySide<A, B> {
     }
 
     fn tick(&mut self, place: usize, claimed: bool) -> Result<bool, Fault> {
-        match side_of(self.first.places(), place)? {
-            Side::First(k) => self.first.tick(k, claimed),
-            Side::Second(k) => self.second.tick(k, claimed),
+        match in_second(self.first.places(), place)? {
+            None => self.first.tick(place, claimed),
+            Some(k) => self.second.tick(k, claimed),
         }
     }
 
     fn worst(&self, place: usize, n: u64) -> Result<u64, Fault> {
-        match side_of(self.first.places(), place)? {
-            Side::First(k) => self.first.worst(k, n),
-            Side::Second(k) => self.second.worst(k, n),
+        match in_second(self.first.places(), place)? {
+            None => self.first.worst(place, n),
+            Some(k) => self.second.worst(k, n),
         }
     }
 
     fn lead(&self, place: usize) -> Result<u64, Fault> {
-        match side_of(self.first.places(), place)? {
-            Side::First(k) => self.first.lead(k),
-            Side::Second(k) => self.second.lead(k),
+        match in_second(self.first.places(), place)? {
+            None => self.first.lead(place),
+            Some(k) => self.second.lead(k),
         }
     }
 
     fn pace(&self, place: usize, n: u64) -> Result<u64, Fault> {
-        match side_of(self.first.places(), place)? {
-            Side::First(k) => self.first.pace(k, n),
-            Side::Second(k) => self.second.pace(k, n),
+        match in_second(self.first.places(), place)? {
+            None => self.first.pace(place, n),
+            Some(k) => self.second.pace(k, n),
         }
     }
 }

@@ -1,8 +1,10 @@
 #![tactic(auto)]
 
-ghost use Rattle.std.specs.Prelude.{vec_len};
+ghost use Rattle.std.specs.Prelude.{◌≡◌, ◌≤◌, MatchResult, Some, slice_get, vec_len};
+ghost use Rattle.faults.specs.Faults.{fault};
+ghost use Rattle.faults.specs.declared.layer.Layer.TheVariants.{Runner as AtRunner};
 ghost use Rattle.rows.specs.Rows.{row_service, RowSteps};
-ghost use Rattle.rows.specs.RowLaws.{row_keeps, row_at, row_same, row_other};
+ghost use Rattle.rows.specs.RowLaws.{row_keeps, row_moves, row_others};
 ghost use Rattle.std.proofs.Common.{rules};
 
 use faults::fault::Fault;
@@ -15,6 +17,14 @@ pub struct Row<S> {
     pub servers: Vec<S>,
 }
 
+impl<S> Row<S> {
+    fn server_at(&self, place: usize) -> Result<&S, Fault>
+        ensures { MatchResult result (λ s. slice_get self.now.servers.items place ≡ Some s.now) (λ e. (e ≡ fault 13 AtRunner 0 0) × (vec_len self.now.servers ≤ place)) }
+    {
+        self.servers.get(place).ok_or_else(no_place)
+    }
+}
+
 impl<S: Server> Rack for Row<S> {
     ghost places = { λ s. vec_len s.servers };
 
@@ -22,17 +32,11 @@ impl<S: Server> Rack for Row<S> {
 
     ghost steps = { λ a k c g b. RowSteps S.Server.steps a.servers.items k c g b.servers.items };
 
-    ghost keeps = { λ s k h. row_keeps S.Server.service S.Server.keeps s.servers.items k };
+    ghost keeps = { λ s k _. row_keeps S.Server.keeps s.servers.items k };
 
-    ghost moves = { λ a b k c r m.
-        let p = S.Server.service in
-        let xs = a.servers.items in
-        rw (row_at p xs k m.before m.there m.was, m.is, row_same p xs k m.after m.there)
-        (S.Server.moves m.before m.after c r m.ticks) };
+    ghost moves = { λ a b. row_moves S.Server.moves a.servers.items b.servers.items };
 
-    ghost others = { λ a b k c r m j h ne.
-        let p = S.Server.service in
-        rw m.is (row_other p a.servers.items k j m.after ne) };
+    ghost others = { λ a b k c g m j _. row_others S.Server.service m j };
 
     ghost stays = { Prim.search rules };
 
@@ -41,30 +45,21 @@ impl<S: Server> Rack for Row<S> {
     }
 
     fn tick(&mut self, place: usize, claimed: bool) -> Result<bool, Fault> {
-        if place >= self.servers.len() {
-            return Err(no_place());
+        match self.servers.get_mut(place) {
+            Some(server) => Ok(server.tick(claimed)),
+            None => Err(no_place()),
         }
-        Ok(self.servers[place].tick(claimed))
     }
 
     fn worst(&self, place: usize, n: u64) -> Result<u64, Fault> {
-        if place >= self.servers.len() {
-            return Err(no_place());
-        }
-        self.servers[place].worst(n)
+        self.server_at(place)?.worst(n)
     }
 
     fn lead(&self, place: usize) -> Result<u64, Fault> {
-        if place >= self.servers.len() {
-            return Err(no_place());
-        }
-        self.servers[place].lead()
+        self.server_at(place)?.lead()
     }
 
     fn pace(&self, place: usize, n: u64) -> Result<u64, Fault> {
-        if place >= self.servers.len() {
-            return Err(no_place());
-        }
-        self.servers[place].pace(n)
+        self.server_at(place)?.pace(n)
     }
 }

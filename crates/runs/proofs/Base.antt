@@ -5,8 +5,8 @@ use mathlib.Core.List.{Memᴰ}
 use Rattle.std.proofs.lemmas.Bool.Decides.{nat_tests}
 use Rattle.flow.specs.Nets.{Net, Sound}
 use Rattle.runs.specs.States.{State, Finished, one, supplied, starts, left, ends, put_out, new_state, arrived, need_set, ticked}
-use Rattle.flow.proofs.Largest.{le_or}
-use Rattle.flow.proofs.Bounds.{no_both}
+use Rattle.servers.specs.Rounding.{le_or_lt}
+use Rattle.runs.specs.Claims.{Ended}
 use Rattle.runs.proofs.Moves.{Supplied, supplied_decides, Move, rests, goes, begins, lacks, move, begun}
 
 pub record Base (g : Net) (s : State) : Type 0 where
@@ -72,13 +72,13 @@ OneOut g s grants m = cond (ends g s grants m) (record { task = m; firing = s.fi
 has_one : (g : Net) (s : State) (grants : ℕ → Bool) (v : ℕ) (b : Bool) → b ≡ true →
     Memᴰ {A = Finished} (record { task = v; firing = s.fired v; clock = s.clock + 1 }) (cond b (record { task = v; firing = s.fired v; clock = s.clock + 1 } ∷ []) [])
 has_one g s grants v true q = Memᴰ.head refl
-has_one g s grants v false q = absurd (no_both q refl)
+has_one g s grants v false q = absurd cc
 
 pub has_out : (g : Net) (s : State) (grants : ℕ → Bool) (v n : ℕ) → v < n → ends g s grants v ≡ true →
     Memᴰ {A = Finished} (record { task = v; firing = s.fired v; clock = s.clock + 1 }) (put_out g s grants n)
 unfolding put_out
 has_out g s grants v zero h q = absurd (omega arith)
-has_out g s grants v (suc n) h q = go (le_or n v) (λ l. has_out g s grants v n l q)
+has_out g s grants v (suc n) h q = go (le_or_lt n v) (λ l. has_out g s grants v n l q)
   where
     go : (n ≤ v) ⊎ (v < n) → (v < n → Memᴰ {A = Finished} (record { task = v; firing = s.fired v; clock = s.clock + 1 }) (put_out g s grants n)) →
         Memᴰ {A = Finished} (record { task = v; firing = s.fired v; clock = s.clock + 1 }) (put_out g s grants n ++ OneOut g s grants n)
@@ -87,6 +87,17 @@ has_out g s grants v (suc n) h q = go (le_or n v) (λ l. has_out g s grants v n 
         subst (λ (m : ℕ). Memᴰ {A = Finished} (record { task = v; firing = s.fired v; clock = s.clock + 1 }) (put_out g s grants n ++ OneOut g s grants m)) e
         (Memᴰ.append_right (put_out g s grants n) (has_one g s grants v (ends g s grants v) q))
     go (inr l) before = Memᴰ.append_left (OneOut g s grants n) (before l)
+
+-- A firing that is done with this tick, and was not before it, was put out by it.
+pub out_now : (g : Net) (s : State) (grants : ℕ → Bool) (v i : ℕ) → v < g.tasks → s.fired v ≤ i → i < s.fired v + one (ends g s grants v) → Ended (ticked g grants s) v i (s.clock + 1)
+out_now g s grants v i h over within =
+    let e : ends g s grants v ≡ true = ends_now (ends g s grants v) within in
+    let q : s.fired v ≡ i = omega (arith, ap one e) in
+    Memᴰ.append_right s.records (subst (λ (m : ℕ). Memᴰ {A = Finished} (record { task = v; firing = m; clock = s.clock + 1 }) (put_out g s grants g.tasks)) q (has_out g s grants v g.tasks h e))
+  where
+    ends_now : (b : Bool) → i < s.fired v + one b → b ≡ true
+    ends_now true _ = refl
+    ends_now false l = absurd (omega arith)
 
 -- the counts over a tick
 module _ (g : Net) (sound : Sound g) (s : State) (grants : ℕ → Bool) (b : Base g s) where

@@ -1,16 +1,16 @@
 -- No firing ends before what it takes was there.
-use Rattle.std.proofs.Common.{◌≡◌, ℕ, ◌+◌, ◌-◌, ◌<◌, ◌≤◌, min, Bool, true, false, cond, ◌&&◌, eqb, ◌⊎◌, List, refl, ap, subst, inl, inr, arith}
+use Rattle.std.proofs.Common.{◌≡◌, ℕ, ◌+◌, ◌-◌, ◌<◌, ◌≤◌, min, Bool, true, cond, ◌&&◌, eqb, ◌⊎◌, List, ap, inl, inr, arith}
 use mathlib.Core.List.Memᴰ
 use mathlib.Core.List.{Memᴰ}
 use Rattle.std.proofs.lemmas.Bool.Decides.{nat_tests}
 use Rattle.flow.specs.Nets.{Net, Sound, Arrivals}
 use Rattle.flow.specs.Finish.{Feeds}
-use Rattle.flow.proofs.Largest.{le_or}
+use Rattle.servers.specs.Rounding.{le_or_lt}
 use Rattle.runs.specs.States.{State, Finished, one, starts, ends, put_out, new_state, arrived, need_set, ticked}
 use Rattle.runs.specs.Runs.{Said, Whole, Run, begin, refuses, arrives, sets, ticks, takes}
 use Rattle.runs.specs.Claims.{Ended, NotEarly}
 use Rattle.runs.proofs.Moves.{Supplied}
-use Rattle.runs.proofs.Base.{Base, has_out, had, begun_at, base_start, base_needs, base_arrived, base_ticked}
+use Rattle.runs.proofs.Base.{Base, out_now, had, begun_at, base_start, base_needs, base_arrived, base_ticked}
 use Rattle.runs.proofs.Forget.{heard, need_ok}
 use Rattle.runs.proofs.Order.{put_of}
 
@@ -83,22 +83,15 @@ module _ (n : Net) (sound : Sound n) where
     later (d, l, h) k = (d, omega arith, lift h)
 
     ended' : (v j : ℕ) → v < n.tasks → j < s.fired v + one (ends n s grants v) → (c : ℕ) × (c ≤ s.clock + 1) × Ended s' v j c
-    ended' v j h l = go (le_or (s.fired v) j)
+    ended' v j h l = go (le_or_lt (s.fired v) j)
       where
-        ends_now : (b : Bool) → j < s.fired v + one b → s.fired v ≤ j → b ≡ true
-        ends_now true _ _ = refl
-        ends_now false p q = absurd (omega arith)
-
         go : (s.fired v ≤ j) ⊎ (j < s.fired v) → (c : ℕ) × (c ≤ s.clock + 1) × Ended s' v j c
-        go (inl p) =
-            let e : ends n s grants v ≡ true = ends_now (ends n s grants v) l p in
-            let q : s.fired v ≡ j = omega (arith, ap one e) in
-            (s.clock + 1, omega arith, Memᴰ.append_right s.records (subst (λ (m : ℕ). Memᴰ {A = Finished} (record { task = v; firing = m; clock = s.clock + 1 }) (put_out n s grants n.tasks)) q (has_out n s grants v n.tasks h e)))
+        go (inl p) = (s.clock + 1, omega arith, out_now n s grants v j h p l)
         go (inr p) = let o = old.ended v j h p in (o.0, omega (arith, o.1), lift o.2)
 
     -- a firing that was begun before, or begins now with all that it takes
     was_or_now : (v j : ℕ) → v < n.tasks → j < begun s' v → (j < begun s v) ⊎ ((j ≡ begun s v) × Supplied n s v)
-    was_or_now v j h l = go (le_or (begun s v) j) (had n sound s grants old.base v h)
+    was_or_now v j h l = go (le_or_lt (begun s v) j) (had n sound s grants old.base v h)
       where
         go : (begun s v ≤ j) ⊎ (j < begun s v) → (one (starts n s grants v) ≡ 0) ⊎ ((one (starts n s grants v) ≡ 1) × Supplied n s v) → (j < begun s v) ⊎ ((j ≡ begun s v) × Supplied n s v)
         go (inr p) _ = inl p

@@ -11,7 +11,7 @@ use Rattle.racks.specs.declared.one.One.{One}
 use Rattle.flow.specs.Nets.{Sound, Arrivals}
 use Rattle.flow.specs.Finish.{Feeds, ReadyLargest, Finish, finish, by_worst}
 use Rattle.runs.specs.States.{State}
-use Rattle.flow.proofs.Largest.{le_or}
+use Rattle.servers.specs.Rounding.{le_or_lt}
 use Rattle.runs.specs.Runs.{arrive, tick, Said, done, arrivals_of, Whole, why, Sweep, none, more, Run, begin, refuses, arrives, sets, ticks, takes}
 use Rattle.runs.specs.Claims.{Ended}
 use Rattle.flow.specs.Lone.{lone, at_times}
@@ -154,7 +154,7 @@ module _ (f : Fixed) (T : ℕ) (pos : 1 ≤ T) (slots : ℕ) where
           let old : j < m → r.whole.state.arrivals.stamp 0 j ≡ get_or times j 0 = r.stamps j in
           let cnt : r.whole.state.arrivals.count 0 ≡ m = r.count in
           let clk : r.whole.state.clock ≡ c = r.clock in
-          by j (le_or m j) l old;
+          by j (le_or_lt m j) l old;
       few = omega (arith, r.few);
     }
       where
@@ -235,7 +235,7 @@ module _ (f : Fixed) (T : ℕ) (pos : 1 ≤ T) (slots : ℕ) where
 
 -- the position from which a slice is worst
 worst_place : (p s : ℕ) → 0 < s → s ≤ p → (at : ℕ) × (at < p) × ((n : ℕ) → wait_at p s at n ≡ worst_of p s n)
-worst_place p s some fits = go (le_or p s)
+worst_place p s some fits = go (le_or_lt p s)
   where
     go : (p ≤ s) ⊎ (s < p) → (at : ℕ) × (at < p) × ((n : ℕ) → wait_at p s at n ≡ worst_of p s n)
     go (inl h) = (0, omega arith, worst_whole p s some fits (omega arith))

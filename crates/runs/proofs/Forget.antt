@@ -6,8 +6,7 @@ use Rattle.flow.specs.Finish.{Finish, by_worst}
 use Rattle.runs.specs.States.{one_more}
 use Rattle.runs.proofs.Bare.{Waits, Ticked}
 use Rattle.runs.proofs.Bare as bare
-use Rattle.flow.proofs.Largest.{le_or}
-use Rattle.flow.proofs.Bounds.{no_both}
+use Rattle.servers.specs.Rounding.{le_or_lt}
 use Rattle.runs.proofs.Kept as kept
 use Rattle.runs.specs.Runs.{arrive, need, Said, clock_of, arrivals_of, Whole, why, Sweep, none, more, Run, begin, refuses, arrives, sets, ticks, takes}
 use Rattle.runs.specs.Claims.{OnTime, SameFigures, Steady}
@@ -66,7 +65,7 @@ module _ {R : Type 0} (places : R → ℕ) (service : R → ℕ → Service) (st
       step_on : Swept grants a n b → Swept grants a (suc n) c
       step_on old = record {
         stays = shows.stays b c n (get_or claims n false) (grants n) step ∙ old.stays;
-        ticked = λ v h i. by v i (le_or n v) h;
+        ticked = λ v h i. by v i (le_or_lt n v) h;
         rests = λ v h i. shows.others b c n (get_or claims n false) (grants n) step v (omega (arith, old.stays)) (λ e. omega arith) ∙ old.rests v (omega arith) i;
       }
         where
@@ -95,8 +94,8 @@ module _ {R : Type 0} (places : R → ℕ) (service : R → ℕ → Service) (st
       }
 
   sooner : (p q : Service) (g : Bool) → Sooner g p.wait q.wait → Ticked g p.wait q.wait
-  sooner p q true s = record { given = λ e n. let i : n + 1 ≡ suc n = omega arith in omega (arith, s n, ap p.wait i); kept = λ e. absurd (no_both refl e) }
-  sooner p q false s = record { given = λ e. absurd (no_both e refl); kept = λ e n h. omega (arith, s n h) }
+  sooner p q true s = record { given = λ e n. let i : n + 1 ≡ suc n = omega arith in omega (arith, s n, ap p.wait i); kept = λ e. absurd cc }
+  sooner p q false s = record { given = λ e. absurd cc; kept = λ e n h. omega (arith, s n h) }
 
   module _ (g : Net) (first : R) (slots : ℕ) (fits : g.tasks ≤ places first) where
     pub run_stays : {said : List Said} {a : R} {x : Whole} → Run steps g first slots said a x → places a ≡ places first

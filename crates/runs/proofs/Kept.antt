@@ -1,17 +1,16 @@
 -- The windows of all tasks are kept over a run, and so each firing is on time.
 use Rattle.std.proofs.Common.{◌≡◌, ℕ, suc, ◌+◌, ◌-◌, ◌*◌, ◌<◌, ◌≤◌, Bool, true, false, cond, ◌&&◌, eqb, ◌⊎◌, refl, ap, subst, inl, inr, mul-le-mul_right, arith}
 use mathlib.Core.List.Memᴰ
-use mathlib.Core.List.{Memᴰ}
 use Rattle.std.proofs.lemmas.Bool.Decides.{nat_tests}
 use Rattle.flow.specs.Nets.{Net, Sound, Arrivals}
 use Rattle.flow.specs.Finish.{Feeds, Finish, Ready}
-use Rattle.runs.specs.States.{State, Finished, one, supplied, starts, left, ends, put_out, new_state, arrived, need_set, ticked}
+use Rattle.runs.specs.States.{State, one, supplied, starts, left, ends, put_out, new_state, arrived, need_set, ticked}
 use Rattle.runs.proofs.Bare.{Waits, Places, PlacesTicked, Bare, begin, arrives, sets, ticks, cost_of, OutBy}
-use Rattle.flow.proofs.Largest.{le_or}
+use Rattle.servers.specs.Rounding.{le_or_lt}
 use Rattle.flow.proofs.Bounds.{ready_le, finish_ready, ready_back}
 use Rattle.runs.proofs.Moves.{supplied_decides, move}
 use Rattle.runs.proofs.Window.{rest, rest_cases, open_window, slide}
-use Rattle.runs.proofs.Base.{Base, has_out, base_start, base_needs, base_arrived, base_ticked}
+use Rattle.runs.proofs.Base.{Base, out_now, base_start, base_needs, base_arrived, base_ticked}
 
 -- arrivals come in order
 pub record Ordered (g : Net) (α : Arrivals) : Type 0 where
@@ -39,7 +38,7 @@ pub record Kept (g : Net) (Z W : ℕ → ℕ → ℕ) (s : State) : Type 0 where
 module _ (g : Net) (sound : Sound g) (Z : ℕ → ℕ → ℕ) where
   -- a firing whose bound is not past the clock has ended
   ended : (W : ℕ → ℕ → ℕ) (s : State) → Kept g Z W s → (α : Arrivals) → Ordered g α → Agrees g α s → (v i t : ℕ) → v < g.tasks → Finish g α (cost_of g Z) v i t → t ≤ s.clock → i < s.fired v
-  ended W s kept α ord agr v i t h d le = go (le_or (s.fired v) i)
+  ended W s kept α ord agr v i t h d le = go (le_or_lt (s.fired v) i)
     where
       go : (s.fired v ≤ i) ⊎ (i < s.fired v) → i < s.fired v
       go (inr l) = l
@@ -65,14 +64,14 @@ module _ (g : Net) (sound : Sound g) (Z : ℕ → ℕ → ℕ) where
       by_inlet q =
           let ar = r.largest.arrived q in
           let b = kept.base.wait_count v h q in
-          go (le_or (s.arrivals.count v) (s.fired v))
+          go (le_or_lt (s.arrivals.count v) (s.fired v))
         where
           go : (s.arrivals.count v ≤ s.fired v) ⊎ (s.fired v < s.arrivals.count v) → 1 ≤ s.waiting v
           go (inl l) = absurd (omega (arith, later v (s.fired v) h l (r.largest.arrived q).0, (r.largest.arrived q).1))
           go (inr l) = omega (arith, kept.base.wait_count v h q)
 
       by_edge : (e : ℕ) → e < g.edges → g.to e ≡ v → 1 ≤ s.held e
-      by_edge e he q = go (le_or (g.tokens e) (s.fired v))
+      by_edge e he q = go (le_or_lt (g.tokens e) (s.fired v))
         where
           to_fired : s.fired (g.to e) ≡ s.fired v
           to_fired = ap s.fired q
@@ -156,21 +155,14 @@ module _ (g : Net) (sound : Sound g) (Z : ℕ → ℕ → ℕ) where
     mono v h m n l = (kept.waits v h).worst_rises _ _ (mul-le-mul_right (g.time v) l)
 
     timely : (α : Arrivals) → Ordered g α → Agrees g α (ticked g grants s) → (v i t : ℕ) → v < g.tasks → Finish g α (cost_of g Z) v i t → i < (ticked g grants s).fired v → OutBy (ticked g grants s) v i t
-    timely α ord agr v i t h d l = go (le_or (s.fired v) i)
+    timely α ord agr v i t h d l = go (le_or_lt (s.fired v) i)
       where
-        ends_now : (b : Bool) → i < s.fired v + one b → s.fired v ≤ i → b ≡ true
-        ends_now true _ _ = refl
-        ends_now false p q = absurd (omega arith)
-
         in_time : s.fired v ≤ i → (t ≤ s.clock) ⊎ (s.clock < t) → s.clock + 1 ≤ t
         in_time p (inl le) = absurd (omega (arith, ended W s kept α ord (before_tick α agr) v i t h d le))
         in_time p (inr lt) = omega arith
 
         go : (s.fired v ≤ i) ⊎ (i < s.fired v) → OutBy (ticked g grants s) v i t
-        go (inl p) =
-            let e : ends g s grants v ≡ true = ends_now (ends g s grants v) l p in
-            let q : s.fired v ≡ i = omega (arith, ap one e) in
-            (s.clock + 1, in_time p (le_or t s.clock), Memᴰ.append_right s.records (subst (λ (n : ℕ). Memᴰ {A = Finished} (record { task = v; firing = n; clock = s.clock + 1 }) (put_out g s grants g.tasks)) q (has_out g s grants v g.tasks h e)))
+        go (inl p) = (s.clock + 1, in_time p (le_or_lt t s.clock), out_now g s grants v i h p l)
         go (inr p) = let o = kept.timely α ord (before_tick α agr) v i t h d p in (o.0, o.1, Memᴰ.append_left (put_out g s grants g.tasks) o.2)
 
     kept_ticked : Kept g Z W' (ticked g grants s)
@@ -182,7 +174,7 @@ module _ (g : Net) (sound : Sound g) (Z : ℕ → ℕ → ℕ) where
     }
       where
         windows : (α : Arrivals) → Ordered g α → Agrees g α (ticked g grants s) → (v : ℕ) → v < g.tasks → (a : ℕ) → Ready g α (cost_of g Z) v (s.fired v + one (ends g s grants v)) a → a ≤ s.clock + 1 → Window g α Z W' (ticked g grants s) v
-        windows α ord agr v h a r le = go (le_or a s.clock)
+        windows α ord agr v h a r le = go (le_or_lt a s.clock)
           where
             by_end : (b : Bool) → Ready g α (cost_of g Z) v (s.fired v + one b) a → a ≤ s.clock → (a' : ℕ) × (a' ≤ s.clock) × Ready g α (cost_of g Z) v (s.fired v) a'
             by_end true r l =

@@ -7,7 +7,7 @@ use Rattle.servers.specs.Slices.{wait_at, worst_of}
 use Rattle.servers.specs.SliceLaws.{worst_rises, wait_rises, moved_on, granted_next, passed_next}
 use Rattle.flow.specs.Nets.{Sound}
 use Rattle.runs.specs.States.{State, Finished, one, supplied, starts, left, ends, put_out, new_state, arrived, need_set, ticked}
-use Rattle.flow.proofs.Largest.{le_or}
+use Rattle.servers.specs.Rounding.{le_or_lt}
 use Rattle.runs.proofs.Moves.{supplied_decides, Move, rests, goes, begins, lacks, move, begun}
 use Rattle.runs.proofs.Window.{rest, rest_cases}
 use Rattle.runs.proofs.Base.{Base, base_start, base_needs, base_arrived, base_ticked}
@@ -126,7 +126,7 @@ module _ (p s : ℕ) (some : 0 < s) (fits : s ≤ p) (T : ℕ) (pos : 1 ≤ T) (
 
       -- at a, none of the firings from k on has begun
       none_begun : (σ : State) → Base (lone T) σ → ((j : ℕ) → j < σ.fired 0 + min 1 (σ.to_go 0) → σ.arrivals.stamp 0 j < σ.clock) → σ.clock ≤ a → Known σ → σ.fired 0 + min 1 (σ.to_go 0) ≤ k
-      none_begun σ b began le known = go (le_or (σ.fired 0 + min 1 (σ.to_go 0)) k)
+      none_begun σ b began le known = go (le_or_lt (σ.fired 0 + min 1 (σ.to_go 0)) k)
         where
           go : (σ.fired 0 + min 1 (σ.to_go 0) ≤ k) ⊎ (k < σ.fired 0 + min 1 (σ.to_go 0)) → σ.fired 0 + min 1 (σ.to_go 0) ≤ k
           go (inl h) = h
@@ -201,7 +201,7 @@ module _ (p s : ℕ) (some : 0 < s) (fits : s ≤ p) (T : ℕ) (pos : 1 ≤ T) (
         moved = move (lone T) σ gr 0 (l.base.need_pos 0 (omega arith))
 
         began' : (j : ℕ) → j < f + en + min 1 lf → σ.arrivals.stamp 0 j < σ.clock + 1
-        began' j h = go (le_or (f + min 1 (σ.to_go 0)) j) moved (begun _ _ _ _ _ _ _ f moved)
+        began' j h = go (le_or_lt (f + min 1 (σ.to_go 0)) j) moved (begun _ _ _ _ _ _ _ f moved)
           where
             go : (f + min 1 (σ.to_go 0) ≤ j) ⊎ (j < f + min 1 (σ.to_go 0)) → {st : ℕ} → Move (gr 0) (supplied (lone T) σ 0) (σ.to_go 0) (σ.need 0) lf st en → f + en + min 1 lf ≡ f + min 1 (σ.to_go 0) + st → σ.arrivals.stamp 0 j < σ.clock + 1
             go (inr m) mv e = omega (arith, l.began j m)
@@ -218,7 +218,7 @@ module _ (p s : ℕ) (some : 0 < s) (fits : s ≤ p) (T : ℕ) (pos : 1 ≤ T) (
         base' = base_ticked (lone T) sound σ gr l.base
 
         low' : Known σ → a ≤ σ.clock + 1 → f + en ≤ i → t ≤ σ.clock + 1 + w (σ.clock + 1) (rem_of (f + en) lf)
-        low' known h le = go (le_or a σ.clock)
+        low' known h le = go (le_or_lt a σ.clock)
           where
             step : a ≤ σ.clock →
                 ((gr 0 ≡ false) × (rem_of (f + en) lf ≡ rem_of f (σ.to_go 0))) ⊎ ((gr 0 ≡ true) × (rem_of f (σ.to_go 0) ≡ rem_of (f + en) lf + 1)) ⊎ ((gr 0 ≡ true) × (rem_of (f + en) lf ≡ rem_of f (σ.to_go 0))) →
@@ -254,7 +254,7 @@ module _ (p s : ℕ) (some : 0 < s) (fits : s ≤ p) (T : ℕ) (pos : 1 ≤ T) (
 
             go : Ended σ 0 i c ⊎ Memᴰ {A = Finished} (record { task = 0; firing = i; clock = c }) (put_out (lone T) σ gr 1) → t ≤ c
             go (inl old) = l.late known c old
-            go (inr new) = now (out_one T i c σ gr new) (le_or a σ.clock)
+            go (inr new) = now (out_one T i c σ gr new) (le_or_lt a σ.clock)
 
         pub low_ticked : Low (ticked (lone T) gr σ)
         low_ticked = record { base = base'; need = l.need; began = began'; low = low'; late = late' }

@@ -1,25 +1,29 @@
 -- The records are put in order: of each task by firing, and by clock.
-use Rattle.std.proofs.Common.{◌≡◌, ℕ, zero, suc, ◌+◌, ◌-◌, ◌<◌, ◌≤◌, Bool, true, false, cond, eqb, ◌⊎◌, List, [], ◌∷◌, ◌++◌, length, sym, refl, ap, ◌∙◌, subst, inl, inr, append_assoc, append-nil, add-one, arith, length-append, eqb-true}
+use Rattle.std.proofs.Common.{◌≡◌, ℕ, zero, suc, ◌+◌, ◌-◌, ◌<◌, ◌≤◌, Bool, true, false, cond, eqb, ◌⊎◌, List, [], ◌∷◌, ◌++◌, length, map, get_or, ⊎_elim, sym, refl, ap, ◌∙◌, subst, inl, inr, append_assoc, append-nil, add-one, arith, length-append, eqb-true}
 use mathlib.Core.List.Memᴰ
 use mathlib.Core.List.{Memᴰ}
 use Rattle.std.proofs.lemmas.Bool.Decides.{nat_tests}
+use Rattle.std.proofs.lemmas.List.{map-append, length-map, get_or_append_left, get_or-append_right}
 use Rattle.flow.specs.Nets.{Net}
-use Rattle.flow.proofs.Largest.{le_or}
+use Rattle.servers.specs.Rounding.{le_or_lt}
 use Rattle.runs.specs.States.{State, Finished, one, ends, put_out, ticked}
 use Rattle.runs.specs.Runs.{Said, Whole, Run, begin, refuses, arrives, sets, ticks, takes}
 use Rattle.runs.specs.Claims.{firings_of, numbers, record_clock, Records}
 use Rattle.runs.proofs.Forget.{heard}
 
 -- the j-th clock of two lists, one after the other
-clock_append : (xs ys : List Finished) (j : ℕ) → ((j < length xs) × (record_clock (xs ++ ys) j ≡ record_clock xs j)) ⊎ ((length xs ≤ j) × (record_clock (xs ++ ys) j ≡ record_clock ys (j - length xs)))
-clock_append [] ys j = inr (omega arith, ap (record_clock ys) (let e : j ≡ j - 0 = omega arith in e))
-clock_append (x ∷ xs) ys zero = inl (omega arith, refl)
-clock_append (x ∷ xs) ys (suc j) = go (clock_append xs ys j)
-  where
-    go : ((j < length xs) × (record_clock (xs ++ ys) j ≡ record_clock xs j)) ⊎ ((length xs ≤ j) × (record_clock (xs ++ ys) j ≡ record_clock ys (j - length xs))) →
-        ((suc j < length (x ∷ xs)) × (record_clock (xs ++ ys) j ≡ record_clock xs j)) ⊎ ((length (x ∷ xs) ≤ suc j) × (record_clock (xs ++ ys) j ≡ record_clock ys (suc j - length (x ∷ xs))))
-    go (inl (h, e)) = inl (omega arith, e)
-    go (inr (h, e)) = inr (omega arith, e ∙ ap (record_clock ys) (let q : j - length xs ≡ suc j - length (x ∷ xs) = omega arith in q))
+abbrev Split : List Finished → List Finished → ℕ → Type 0
+Split xs ys j = ((j < length xs) × (record_clock (xs ++ ys) j ≡ record_clock xs j)) ⊎ ((length xs ≤ j) × (record_clock (xs ++ ys) j ≡ record_clock ys (j - length xs)))
+
+split : (xs ys : List Finished) (j : ℕ) → Split xs ys j
+split xs ys j =
+    let clocks : List Finished → List ℕ = map (λ (r : Finished). r.clock) in
+    let both : record_clock (xs ++ ys) j ≡ get_or (clocks xs ++ clocks ys) j 0 = ap (λ ks. get_or ks j 0) (map-append (λ (r : Finished). r.clock) xs ys) in
+    let same : length (clocks xs) ≡ length xs = length-map xs (λ (r : Finished). r.clock) in
+    ⊎_elim
+    (λ l. inr (l, both ∙ get_or-append_right (clocks xs) (clocks ys) (length xs) j 0 same l))
+    (λ l. inl (l, both ∙ get_or_append_left (clocks xs) (clocks ys) 0 j (omega arith)))
+    (le_or_lt (length xs) j)
 
 firings_append : (v : ℕ) (xs ys : List Finished) → firings_of v (xs ++ ys) ≡ firings_of v xs ++ firings_of v ys
 firings_append v [] ys = refl
@@ -37,48 +41,46 @@ module _ (n : Net) (s : State) (grants : ℕ → Bool) where
   put_clock : (m j : ℕ) → j < length (put_out n s grants m) → record_clock (put_out n s grants m) j ≡ s.clock + 1
   unfolding put_out
   put_clock zero j h = absurd (omega arith)
-  put_clock (suc m) j h = go (clock_append (put_out n s grants m) (put_at m) j) (put_clock m j)
+  put_clock (suc m) j h = go (split (put_out n s grants m) (put_at m) j) (put_clock m j)
     where
       at_last : (b : Bool) (k : ℕ) → k < length {A = Finished} (cond b (record { task = m; firing = s.fired m; clock = s.clock + 1 } ∷ []) []) → record_clock (cond b (record { task = m; firing = s.fired m; clock = s.clock + 1 } ∷ []) []) k ≡ s.clock + 1
       at_last true zero l = refl
       at_last true (suc k) l = absurd (omega arith)
       at_last false k l = absurd (omega arith)
 
-      go : ((j < length (put_out n s grants m)) × (record_clock (put_out n s grants m ++ put_at m) j ≡ record_clock (put_out n s grants m) j)) ⊎ ((length (put_out n s grants m) ≤ j) × (record_clock (put_out n s grants m ++ put_at m) j ≡ record_clock (put_at m) (j - length (put_out n s grants m)))) →
+      go : Split (put_out n s grants m) (put_at m) j →
           (j < length (put_out n s grants m) → record_clock (put_out n s grants m) j ≡ s.clock + 1) → record_clock (put_out n s grants m ++ put_at m) j ≡ s.clock + 1
       go (inl (l, e)) old = e ∙ old l
       go (inr (l, e)) old = e ∙ at_last (ends n s grants m) (j - length (put_out n s grants m)) (omega (arith, length-append (put_out n s grants m) (put_at m)))
 
+  put_other : (v m : ℕ) → (m ≡ v → ⊥) → firings_of v (put_at m) ≡ []
+  put_other v m apart = go (ends n s grants m) (eqb m v) refl
+    where
+      go : (b c : Bool) → eqb m v ≡ c → firings_of v (cond b (record { task = m; firing = s.fired m; clock = s.clock + 1 } ∷ []) []) ≡ []
+      go false c e = refl
+      go true false e = ap (λ (d : Bool). cond d (s.fired m ∷ []) []) e
+      go true true e = absurd (apart (eqb-true m v e))
+
   put_none : (v m : ℕ) → m ≤ v → firings_of v (put_out n s grants m) ≡ []
   unfolding put_out
   put_none v zero h = refl
-  put_none v (suc m) h = firings_append v (put_out n s grants m) (put_at m) ∙ ap (λ (l : List ℕ). l ++ firings_of v (put_at m)) (put_none v m (omega arith)) ∙ other (ends n s grants m) (eqb m v) refl
-    where
-      other : (b c : Bool) → eqb m v ≡ c → firings_of v (cond b (record { task = m; firing = s.fired m; clock = s.clock + 1 } ∷ []) []) ≡ []
-      other false c e = refl
-      other true false e = ap (λ (d : Bool). cond d (s.fired m ∷ []) []) e
-      other true true e = let q : m ≡ v = eqb-true m v e in absurd (omega arith)
+  put_none v (suc m) h = firings_append v (put_out n s grants m) (put_at m) ∙ ap (λ (l : List ℕ). l ++ firings_of v (put_at m)) (put_none v m (omega arith)) ∙ put_other v m (λ e. omega arith)
 
   put_one : (v m : ℕ) → v < m → firings_of v (put_out n s grants m) ≡ cond (ends n s grants v) (s.fired v ∷ []) []
   unfolding put_out
   put_one v zero h = absurd (omega arith)
-  put_one v (suc m) h = firings_append v (put_out n s grants m) (put_at m) ∙ go (le_or m v) (put_one v m)
+  put_one v (suc m) h = firings_append v (put_out n s grants m) (put_at m) ∙ go (le_or_lt m v) (put_one v m)
     where
       own : (b : Bool) → firings_of v (cond b (record { task = v; firing = s.fired v; clock = s.clock + 1 } ∷ []) []) ≡ cond b (s.fired v ∷ []) []
       own false = refl
       own true = ap (λ (d : Bool). cond d (s.fired v ∷ []) []) (let e : eqb v v ≡ true = grind (arith, nat_tests) in e)
-
-      other : (b c : Bool) → v < m → eqb m v ≡ c → firings_of v (cond b (record { task = m; firing = s.fired m; clock = s.clock + 1 } ∷ []) []) ≡ []
-      other false c l e = refl
-      other true false l e = ap (λ (d : Bool). cond d (s.fired m ∷ []) []) e
-      other true true l e = let q : m ≡ v = eqb-true m v e in absurd (omega arith)
 
       go : (m ≤ v) ⊎ (v < m) → (v < m → firings_of v (put_out n s grants m) ≡ cond (ends n s grants v) (s.fired v ∷ []) []) → firings_of v (put_out n s grants m) ++ firings_of v (put_at m) ≡ cond (ends n s grants v) (s.fired v ∷ []) []
       go (inl l) old =
           let q : v ≡ m = omega arith in
           ap (λ (k : List ℕ). k ++ firings_of v (put_at m)) (put_none v m l) ∙ subst (λ (k : ℕ). firings_of v (put_at k) ≡ cond (ends n s grants v) (s.fired v ∷ []) []) q (own (ends n s grants v))
       go (inr l) old =
-          ap (λ (k : List ℕ). k ++ firings_of v (put_at m)) (old l) ∙ ap (λ (k : List ℕ). cond (ends n s grants v) (s.fired v ∷ []) [] ++ k) (other (ends n s grants m) (eqb m v) l refl) ∙ append-nil (cond (ends n s grants v) (s.fired v ∷ []) [])
+          ap (λ (k : List ℕ). k ++ firings_of v (put_at m)) (old l) ∙ ap (λ (k : List ℕ). cond (ends n s grants v) (s.fired v ∷ []) [] ++ k) (put_other v m (λ e. omega arith)) ∙ append-nil (cond (ends n s grants v) (s.fired v ∷ []) [])
 
   -- whose records are put at a tick
   pub put_of : (m v i c : ℕ) → Memᴰ {A = Finished} (record { task = v; firing = i; clock = c }) (put_out n s grants m) → (v < m) × (ends n s grants v ≡ true) × (i ≡ s.fired v) × (c ≡ s.clock + 1)
@@ -116,9 +118,9 @@ order_ticked : (n : Net) (s : State) (grants : ℕ → Bool) → Order n s.clock
 order_ticked n s grants o = record {
   firings = λ v h. firings_append v old new ∙ ap (λ (l : List ℕ). l ++ firings_of v new) (o.firings v h) ∙ ap (λ (l : List ℕ). numbers (s.fired v) ++ l) (put_one n s grants v n.tasks h) ∙ numbers_more (s.fired v) (ends n s grants v);
   tasks = λ v i c h. elim (Memᴰ.append_cases old h) [ inl k ↦ o.tasks v i c k | inr k ↦ (put_of n s grants n.tasks v i c k).0 ];
-  from_1 = λ j h. low j h (clock_append old new j);
-  to_now = λ j h. high j h (clock_append old new j);
-  never_falls = λ j k h l. rise j k h l (clock_append old new j) (clock_append old new k);
+  from_1 = λ j h. low j h (split old new j);
+  to_now = λ j h. high j h (split old new j);
+  never_falls = λ j k h l. rise j k h l (split old new j) (split old new k);
 }
   where
     old : List Finished
@@ -127,21 +129,18 @@ order_ticked n s grants o = record {
     new : List Finished
     new = put_out n s grants n.tasks
 
-    Split : ℕ → Type 0
-    Split j = ((j < length old) × (record_clock (old ++ new) j ≡ record_clock old j)) ⊎ ((length old ≤ j) × (record_clock (old ++ new) j ≡ record_clock new (j - length old)))
-
     now : (j : ℕ) → j < length (old ++ new) → length old ≤ j → record_clock new (j - length old) ≡ s.clock + 1
     now j h l = put_clock n s grants n.tasks (j - length old) (omega (arith, length-append old new))
 
-    low : (j : ℕ) → j < length (old ++ new) → Split j → 1 ≤ record_clock (old ++ new) j
+    low : (j : ℕ) → j < length (old ++ new) → Split old new j → 1 ≤ record_clock (old ++ new) j
     low j h (inl (l, e)) = omega (arith, o.from_1 j l)
     low j h (inr (l, e)) = omega (arith, now j h l)
 
-    high : (j : ℕ) → j < length (old ++ new) → Split j → record_clock (old ++ new) j ≤ s.clock + 1
+    high : (j : ℕ) → j < length (old ++ new) → Split old new j → record_clock (old ++ new) j ≤ s.clock + 1
     high j h (inl (l, e)) = omega (arith, o.to_now j l)
     high j h (inr (l, e)) = omega (arith, now j h l)
 
-    rise : (j k : ℕ) → j ≤ k → k < length (old ++ new) → Split j → Split k → record_clock (old ++ new) j ≤ record_clock (old ++ new) k
+    rise : (j k : ℕ) → j ≤ k → k < length (old ++ new) → Split old new j → Split old new k → record_clock (old ++ new) j ≤ record_clock (old ++ new) k
     rise j k h l (inl (a, d)) (inl (b, e)) = omega (arith, o.never_falls j k h b)
     rise j k h l (inl (a, d)) (inr (b, e)) = omega (arith, o.to_now j a, now k l b)
     rise j k h l (inr (a, d)) (inl (b, e)) = absurd (omega arith)

@@ -1,26 +1,18 @@
 -- Firings keep pace with the arrivals.
-use Rattle.std.proofs.Common.{◌≡◌, ℕ, zero, suc, ◌+◌, ◌-◌, ◌*◌, ◌<◌, ◌≤◌, Bool, true, ◌⊎◌, [], ◌∷◌, sym, ap, ◌∙◌, subst, inl, inr, mul_assoc, mul_comm, add-mul, mul-le-mul_left, mul-add, arith}
+use Rattle.std.proofs.Common.{◌≡◌, ℕ, ◌+◌, ◌-◌, ◌*◌, ◌<◌, ◌≤◌, Bool, true, ◌⊎◌, [], ◌∷◌, sym, ap, ◌∙◌, subst, inl, inr, mul_assoc, mul_comm, add-mul, mul-le-mul_left, mul-add, arith}
 use native.Mathlib.Nat.{le_of_mul-le-mul_left}
 use Rattle.servers.specs.Service.{Service, Laws}
 use Rattle.flow.specs.Nets.{Net, Sound, Arrivals}
 use Rattle.flow.specs.Finish.{Feeds, Finish, finish, by_worst}
 use Rattle.flow.proofs.Exists.{has_bound}
+use Rattle.flow.proofs.FinishRule.{paces}
+use Rattle.flow.proofs.RingFigures.{link_ring}
 use Rattle.runs.specs.Runs.{clock_of, arrivals_of}
-use Rattle.flow.specs.Rings.{link, pace_of, lead_and_pace_of, end, Ring, Cycle, Enough}
+use Rattle.flow.specs.Rings.{link, pace_of, lead_and_pace_of, Cycle, Enough}
 use Rattle.runs.specs.Claims.{Paced}
 use Rattle.runs.proofs.Forget.{Shows, on_time, run_stays}
 
--- n firings' pace is at most n times the pace of one
-paces : (p : Service) → Laws p → (t n : ℕ) → p.pace (n * t) ≤ n * p.pace t
-paces p l t zero = let e : 0 * t ≡ 0 = omega arith in omega (arith, ap p.pace e, l.pace_none)
-paces p l t (suc n) =
-    let e : suc n * t ≡ n * t + t = omega arith in
-    omega (arith, ap p.pace e, l.pace_adds (n * t) t, paces p l t n)
-
 -- what a link is worth: parts * pace ≤ cycle
-pub link_ring : (g : Net) (v : ℕ) → v < g.tasks → Ring g (link v ∷ [])
-link_ring g v h = record { at = v; closed = end (link v) h; once = λ i j a b e. omega arith }
-
 link_paced : (g : Net) (p : ℕ → Service) (cycle parts : ℕ) → Cycle g p cycle parts → (v : ℕ) → v < g.tasks → parts * pace_of g p v ≤ cycle
 link_paced g p cycle parts figures v h =
     let w = figures.largest (link v ∷ []) (link_ring g v h) in

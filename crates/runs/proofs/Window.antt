@@ -3,7 +3,6 @@ use Rattle.std.proofs.Common.{◌≡◌, ℕ, suc, ◌+◌, ◌-◌, ◌*◌, �
 use Rattle.std.proofs.lemmas.Bool.Decides.{nat_tests}
 use Rattle.runs.proofs.Bare.{Waits, Ticked}
 use Rattle.runs.proofs.Moves.{Move, rests, goes, begins, lacks}
-use Rattle.flow.proofs.Bounds.{no_both}
 
 -- the ticks that the firing under way, or else the next one, may still take
 pub rest : ℕ → ℕ → ℕ
@@ -72,4 +71,4 @@ module _ (grant sup : Bool) (z w w' : ℕ → ℕ) (c a f k time togo need left 
       let cs = rest_cases time togo in
       let l : suc left ≤ rest time togo = omega arith in
       given grant l ends x
-  slide (lacks grant idle lack _ _ _) has x = absurd (no_both (has idle) lack)
+  slide (lacks grant idle lack _ _ _) has x = let h = has idle in absurd cc

@@ -14,52 +14,44 @@ use servers::own::Own;
 // `paced`: where arrivals keep to the cycle, firing i is finished by its start figure and i cycles.
 // `exact`: one task alone on a fixed slice ends exactly at its bound in some phase.
 // `steady`: the figures that these speak of are the same before a run and after it.
-pub fn promise<R: Rack>() -> u8
+pub fn promise<R: Rack>()
     ensures timely { OnTime R.Rack.places R.Rack.service R.Rack.steps }
     ensures paced { Paced R.Rack.places R.Rack.service R.Rack.steps }
     ensures exact { Exact }
     ensures steady { Steady R.Rack.places R.Rack.service R.Rack.steps }
-{
-    0
-}
+{}
 
 // So no bound below that of `exact` is true in all phases.
-pub fn no_smaller() -> u8
+pub fn no_smaller()
     ensures { NoSmaller }
-{
-    0
-}
+{}
 
 // The promise of the rack of one fixed slice: its ticks are those that `exact` speaks of.
-pub fn slice_promise() -> u8
+pub fn slice_promise()
     ensures timely { OnTime (λ _. 1) slice_at slice_steps }
     ensures paced { Paced (λ _. 1) slice_at slice_steps }
     ensures exact { Exact }
 {
-    promise::<One<Fixed>>()
+    promise::<One<Fixed>>();
 }
 
 // The records of every run, on every rack. `in_order`: they tell the firings of each task in order, and their clocks never fall.
 // `not_early`: no firing ends before the tokens and the arrival that it takes were there.
-pub fn records<R: Rack>() -> u8
+pub fn records<R: Rack>()
     ensures in_order { Records R.Rack.places R.Rack.steps }
     ensures not_early { NotEarly R.Rack.places R.Rack.steps }
-{
-    0
-}
+{}
 
 // There are such runs: the sample's, tick by tick, in which both first firings end exactly at their finish bounds. Its cycle and start figures are there too.
-pub fn sample_run() -> u8
+pub fn sample_run()
     ensures { Sample }
-{
-    0
-}
+{}
 
 // The promise of the sample's rack: its ticks are those of `sample_run`.
-pub fn sample_promise() -> u8
+pub fn sample_promise()
     ensures timely { OnTime sample_places sample_service sample_steps }
     ensures paced { Paced sample_places sample_service sample_steps }
     ensures exact { Exact }
 {
-    promise::<SideBySide<One<Fixed>, One<Own>>>()
+    promise::<SideBySide<One<Fixed>, One<Own>>>();
 }
