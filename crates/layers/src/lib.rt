@@ -1,6 +1,4 @@
 #![tactic(auto)]
 
 pub mod inner;
-pub mod inner_server;
 pub mod stack;
-pub mod stack_server;

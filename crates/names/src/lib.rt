@@ -1,4 +1,3 @@
 #![tactic(auto)]
 
 pub mod name;
-mod name_calls;
