@@ -1,5 +1,5 @@
 -- The graph and the rack of a sheet whose lines are in order.
-use Rattle.std.proofs.Common.{◌≡◌, ℕ, ◌<◌, List, [], ◌∷◌, map, length, IsErrAnd, Err, vec_items, vec_len, Result, sym, ap, ◌∙◌, subst, arith}
+use Rattle.std.proofs.Common.{◌≡◌, ℕ, ◌<◌, List, map, length, IsErrAnd, Err, vec_items, vec_len, Result, sym, ap, ◌∙◌, subst, arith}
 use Rattle.std.proofs.lemmas.List.{length-map}
 use Rattle.std.proofs.lemmas.Result.{err_from_is_err_and}
 use Rattle.faults.specs.Faults.{fault}
@@ -20,7 +20,7 @@ use Rattle.graph.specs.Graphs as graphs
 use Rattle.graph.specs.Lines.{line_of}
 use Rattle.graph.specs.Racked.{Told, Racked, RefusesRack, misfit, above}
 use Rattle.sheets.specs.declared.sheet.Sheet.{Sheet}
-use Rattle.sheets.specs.Pages.{Entry, Page, task_of, write}
+use Rattle.sheets.specs.Pages.{Page, task_of, write}
 use Rattle.sheets.specs.Offers.{AllMade}
 use Rattle.sheets.specs.Legal.{InOrder, Legal, TaskTold, entry_at}
 use Rattle.sheets.specs.Laws.{Written, Refused, ring, figure}

@@ -1,12 +1,11 @@
 -- The heading, and one edge line after another.
-use Rattle.std.proofs.Common.{◌≡◌, ◌+◌, List, [], length, get_or, drop, map, None, sym, ap, ◌∙◌, subst, arith, rules}
+use Rattle.std.proofs.Common.{◌≡◌, ◌+◌, [], length, get_or, drop, None, sym, ap, ◌∙◌, subst, arith, rules}
 use Rattle.lexer.specs.Left.{lines_left}
 use Rattle.cells.specs.Checks.{first}
 use Rattle.cells.proofs.Firsts.{first_after}
 use Rattle.headings.specs.declared.table.Table.TheVariants as table
 use Rattle.headings.specs.Tables.{heading}
 use Rattle.sheets.specs.Pages.{names}
-use Rattle.sheets.specs.Reads.{entry}
 use Rattle.sheets.specs.Checks.{exact_checks, edges_checks, edge_checks, edge_of}
 use Rattle.sheet_lines.proofs.Handed.{handed_on}
 use Rattle.reader.specs.TableChecks.{edge_table}

@@ -1,5 +1,5 @@
 -- The heading, and one task line after another, up to the empty line.
-use Rattle.std.proofs.Common.{◌≡◌, ◌+◌, ◌<◌, not, ltb, [], ◌∷◌, ◌++◌, length, get_or, drop, None, sym, ap, ◌∙◌, subst, arith}
+use Rattle.std.proofs.Common.{◌≡◌, ◌+◌, ◌<◌, not, ltb, [], ◌∷◌, ◌++◌, length, get_or, drop, sym, ap, ◌∙◌, subst, arith}
 use Rattle.lexer.specs.Left.{lines_left}
 use Rattle.cells.specs.Checks.{bad, first}
 use Rattle.cells.proofs.Firsts.{first_after}

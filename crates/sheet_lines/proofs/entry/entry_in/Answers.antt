@@ -1,5 +1,5 @@
 -- The shape, the fields, the name and the server, in this order.
-use Rattle.std.proofs.Common.{◌≡◌, ◌<◌, true, false, ◌++◌, map, length, Some, sym, ap, ◌∙◌, subst, arith}
+use Rattle.std.proofs.Common.{◌≡◌, true, false, ◌++◌, map, Some, sym, ap, ◌∙◌, subst, arith}
 use Rattle.std.proofs.lemmas.List.{length-map}
 use Rattle.std.proofs.lemmas.Bool.{ltb-true}
 use Rattle.lexer.specs.Text.{fields}

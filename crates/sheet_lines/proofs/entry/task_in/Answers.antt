@@ -1,7 +1,5 @@
 -- The first field or settings that break, or the task that they say.
-use Rattle.std.proofs.Common.{◌≡◌, ℕ, eqb, List, [], ◌∷◌, ◌++◌, length, get_or, ap, ◌∙◌, rules}
-use Rattle.lexer.specs.Text.{fields}
-use Rattle.cells.specs.Checks.{first}
+use Rattle.std.proofs.Common.{eqb, List, [], ◌∷◌, ◌++◌, ap, ◌∙◌, rules}
 use Rattle.cells.specs.Values.{value, kind_of}
 use Rattle.headings.specs.declared.column.Column.{Column}
 use Rattle.headings.specs.declared.column.Column.TheVariants.{Task, Time, Kind, Period, Slice, Phase, Inner, Inslice, Inphase, Inlet}
