@@ -4,7 +4,6 @@ use Rattle.std.proofs.lemmas.Bool.Decides.{nat_tests}
 use Rattle.servers.specs.Slices.{wait_at, worst_of}
 use Rattle.servers.specs.FixedService.{Moves}
 use Rattle.servers.specs.declared.fixed.Fixed.{Fixed}
-use Rattle.servers.specs.declared.slice.Slice.{Slice}
 use Rattle.servers.specs.SliceLaws.{fixed_laws, fixed_moves}
 use Rattle.servers.proofs.WorstPhase.{worst_after, worst_whole}
 use Rattle.racks.specs.declared.one.One.{One}
@@ -49,19 +48,21 @@ module _ (f : Fixed) (T : ℕ) (pos : 1 ≤ T) (slots : ℕ) where
 
   -- where the slice stands
   record Placed (b : One Fixed) (c : ℕ) : Type 0 where
-    pub slice : b.server.slice ≡ f.slice
+    pub period : b.server.slice.period ≡ f.slice.period
+    pub slice : b.server.slice.ticks ≡ f.slice.ticks
     pub position : b.server.position ≡ posn f.slice.period f.position c
 
   placed_tick : (a b : One Fixed) (claimed granted : Bool) (c : ℕ) → Placed a c → Moves a.server claimed granted b.server → Placed b (c + 1)
   placed_tick a b claimed granted c old m = record {
-    slice = m.same ∙ old.slice;
+    period = m.same_period ∙ old.period;
+    slice = m.same_slice ∙ old.slice;
     position =
-        m.goes ∙ ap (λ (z : Slice). cond (ltb (a.server.position + 1) z.period) (a.server.position + 1) 0) old.slice
+        m.goes ∙ ap (λ (q : ℕ). cond (ltb (a.server.position + 1) q) (a.server.position + 1) 0) old.period
         ∙ ap (next f.slice.period) old.position ∙ sym (posn_step f.slice.period f.position c);
   }
 
   placed : {said : List Said} {b : One Fixed} {x : Whole} → Runs said b x → Placed b x.state.clock
-  placed begin = record { slice = refl; position = sym (posn_none f.slice.period f.position) }
+  placed begin = record { period = refl; slice = refl; position = sym (posn_none f.slice.period f.position) }
   placed (refuses run call q) = placed run
   placed (arrives run v q) = placed run
   placed (sets run v n q) = placed run
@@ -81,7 +82,7 @@ module _ (f : Fixed) (T : ℕ) (pos : 1 ≤ T) (slots : ℕ) where
     low_run (ticks {a = b} {x = x} run claims grants q sweep) full =
         let pl = placed run in
         let m = sweep_one sweep refl in
-        let e : grants 0 ≡ ltb (posn f.slice.period f.position x.state.clock) f.slice.ticks = m.says ∙ ap (λ (n : ℕ). ltb n b.server.slice.ticks) pl.position ∙ ap (λ (z : Slice). ltb (posn f.slice.period f.position x.state.clock) z.ticks) pl.slice in
+        let e : grants 0 ≡ ltb (posn f.slice.period f.position x.state.clock) f.slice.ticks = m.says ∙ ap (λ (n : ℕ). ltb n b.server.slice.ticks) pl.position ∙ ap (ltb (posn f.slice.period f.position x.state.clock)) pl.slice in
         low_ticked f.slice.period f.slice.ticks f.slice.some f.slice.within T pos f.position f.passed i k a t ki tight there (lone_sound T pos) x.state grants e (low_run run full)
     low_run (takes run gone rest h) full = low_run run full
 
@@ -90,7 +91,7 @@ module _ (f : Fixed) (T : ℕ) (pos : 1 ≤ T) (slots : ℕ) where
         (said : List Said) (b : One Fixed) (x : Whole) → Runs said b x → Meets T times i t said → EndsAt x.state i t
     ends_at times at (finish rd fs ds rs m) said b x run meets =
         let pl = placed run in
-        let same : (n : ℕ) → worsts slice_at b 0 n ≡ worst_of f.slice.period f.slice.ticks n = λ n. ap (λ (z : Slice). worst_of z.period z.ticks n) pl.slice in
+        let same : (n : ℕ) → worsts slice_at b 0 n ≡ worst_of f.slice.period f.slice.ticks n = λ n. ap (λ (q : ℕ). worst_of q b.server.slice.ticks n) pl.period ∙ ap (λ (q : ℕ). worst_of f.slice.period q n) pl.slice in
         let d : Finish (lone T) (arrivals_of said) (by_worst (lone T) (slice_at b)) 0 i t = finish rd fs (λ j h e fe. absurd (let z : e < 0 = fe.edge in omega arith)) (λ j h. again j h) (record {
           covers = λ j h. omega (arith, m.covers j h, same ((i - j + 1) * T));
           met = (m.met.0, m.met.1, omega (arith, m.met.2, same ((i - m.met.0 + 1) * T)));
@@ -180,7 +181,7 @@ module _ (f : Fixed) (T : ℕ) (pos : 1 ≤ T) (slots : ℕ) where
       rack = record { server = after };
       whole = _;
       run = ticks (takes r.run r.whole.belt [] (sym (append-nil r.whole.belt))) (false ∷ []) (λ v. ltb r.rack.server.position r.rack.server.slice.ticks) ok
-          (more none (refl, record { says = refl; goes = refl; same = refl }));
+          (more none (refl, record { says = refl; goes = refl; same_period = refl; same_slice = refl }));
       full = r.full;
       clock = omega (arith, r.clock);
       count = r.count;

@@ -129,7 +129,7 @@ module _ (slots : ℕ) (room : 2 ≤ slots) where
     rack = record { first = record { server = moved }; second = r.rack.second };
     whole = _;
     run = ticks (takes r.run r.whole.belt [] (sym (append-nil r.whole.belt))) (false ∷ false ∷ []) (grants_at r.rack.first.server.position) ok
-        (more (more none (inl (omega arith, (refl, record { says = ap (ltb r.rack.first.server.position) (sym r.slice_is); goes = refl; same = refl }), refl)))
+        (more (more none (inl (omega arith, (refl, record { says = ap (ltb r.rack.first.server.position) (sym r.slice_is); goes = refl; same_period = refl; same_slice = refl }), refl)))
         (inr (omega arith, (refl, refl), refl)));
     period = r.period;
     slice_is = r.slice_is;

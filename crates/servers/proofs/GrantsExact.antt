@@ -13,14 +13,14 @@ use Rattle.servers.specs.FloatLaws.{says_granted, says_waits, float_moved_on}
 -- A granted tick takes just one grant and one tick off the wait.
 pub fixed_granted : (a b : Fixed) (c : Bool) → Moves a c true b → (n : ℕ) → (fixed_service a).wait (n + 1) ≡ (fixed_service b).wait n + 1
 fixed_granted a b c m n =
-    rw m.same
+    rw (m.same_period, m.same_slice)
     (granted_next a.slice.period a.slice.ticks a.slice.some a.slice.within a.position b.position a.passed
     (moved_on a.position a.slice.period b.position m.goes) (ltb-true a.position a.slice.ticks (sym m.says)) n)
 
 -- Another tick takes just one tick off the wait.
 pub fixed_passed : (a b : Fixed) (c : Bool) → Moves a c false b → (n : ℕ) → 0 < n → (fixed_service a).wait n ≡ (fixed_service b).wait n + 1
 fixed_passed a b c m n h =
-    rw m.same
+    rw (m.same_period, m.same_slice)
     (passed_next a.slice.period a.slice.ticks a.slice.some a.slice.within a.position b.position a.passed
     (moved_on a.position a.slice.period b.position m.goes) (ltb-false a.position a.slice.ticks (sym m.says)) n h)
 
@@ -90,8 +90,8 @@ rest_step : (t : Tick) (us : List Tick) (a b c : Float) (g : Bool) → t.granted
 rest_step t us a b c g e m r later l =
     ⊎_elim
     (λ h.
-    let period = ap (λ x. x.period) m.same in
-    let ticks = ap (λ x. x.ticks) m.same in
+    let period = m.same_period in
+    let ticks = m.same_slice in
     let x = later (omega arith) in
     let one = counts t.granted g e in
     (omega (arith, x.0, given_more g a.given), x.1))

@@ -14,4 +14,5 @@ fixed_service f = slice_service f.slice.period f.slice.ticks f.position
 pub record Moves (a : Fixed) (claimed granted : Bool) (b : Fixed) : Type 0 where
   pub says : granted ≡ nat_lt a.position a.slice.ticks
   pub goes : b.position ≡ cond (nat_lt (a.position + 1) a.slice.period) (a.position + 1) 0
-  pub same : b.slice ≡ a.slice
+  pub same_period : b.slice.period ≡ a.slice.period
+  pub same_slice : b.slice.ticks ≡ a.slice.ticks

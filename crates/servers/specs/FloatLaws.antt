@@ -10,6 +10,9 @@ use Rattle.servers.specs.Rounding.{up_rises, up_some, up_more, up_least}
 use Rattle.servers.specs.SliceLaws.{worst_rises, worst_none, worst_most, pace_none, pace_least, pace_rises, pace_adds}
 
 module _ (p s t g : ℕ) where
+  float_none : float_wait p s t g 0 ≡ 0
+  float_none = refl
+
   float_soon : (n : ℕ) → 0 < n → n ≤ s - g → float_wait p s t g n ≡ ((p - t) - (s - g)) + n
   float_soon n some h =
       cond-false (n == 0) 0 (cond (nat_lt (s - g) n) ((p - t) + worst_of p s (n - (s - g))) (((p - t) - (s - g)) + n)) (ne_eqb n 0 (λ e. omega arith))
@@ -202,7 +205,7 @@ float_sooner a b c false m =
 
 pub float_moves : (a b : Float) (c g : Bool) → Floats a c g b → Ticks (float_service a) g (float_service b)
 float_moves a b c g m =
-    rw m.same (record { sooner = float_sooner a b c g m; same_worst = λ n. refl; same_lead = refl; same_pace = λ n. refl })
+    rw (m.same_period, m.same_slice) (record { sooner = float_sooner a b c g m; same_worst = λ n. refl; same_lead = refl; same_pace = λ n. refl })
 
 pub float_laws : (f : Float) → Laws (float_service f)
 float_laws f = float_at_laws f.slice.period f.slice.ticks f.slice.some f.slice.within f.passed f.given f.going f.most f.each f.room

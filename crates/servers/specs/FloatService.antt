@@ -22,4 +22,5 @@ pub record Floats (a : Float) (claimed granted : Bool) (b : Float) : Type 0 wher
   pub says : granted ≡ (nat_lt a.given a.slice.ticks && (not claimed || a.slice.ticks - a.given == a.slice.period - a.passed))
   pub passes : b.passed ≡ cond (nat_lt (a.passed + 1) a.slice.period) (a.passed + 1) 0
   pub gives : b.given ≡ cond (nat_lt (a.passed + 1) a.slice.period) (cond granted (a.given + 1) a.given) 0
-  pub same : b.slice ≡ a.slice
+  pub same_period : b.slice.period ≡ a.slice.period
+  pub same_slice : b.slice.ticks ≡ a.slice.ticks

@@ -195,6 +195,6 @@ moved_on at p next e =
 
 pub fixed_moves : (a b : Fixed) (c g : Bool) → Moves a c g b → Ticks (fixed_service a) g (fixed_service b)
 fixed_moves a b c g m =
-    rw (m.same, m.says)
+    rw (m.same_period, m.same_slice, m.says)
     (slice_ticks a.slice.period a.slice.ticks a.slice.some a.slice.within a.position b.position a.passed
     (moved_on a.position a.slice.period b.position m.goes))
