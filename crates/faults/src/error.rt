@@ -4,7 +4,7 @@ ghost use Rattle.faults.specs.declared.error.Error.TheVariants.{Refused as ARefu
 use crate::fault::Fault;
 use std::alloc::AllocError;
 
-// What a call that allocates answers where it fails: a refusal, or want of memory, which is no refusal and has no number.
+// What a step answers that can be refused and can want memory, which is no refusal and has no number.
 #[derive(Clone, Copy, PartialEq, Eq, Debug)]
 pub enum Error {
     Refused(Fault),

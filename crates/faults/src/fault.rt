@@ -6,7 +6,7 @@ use crate::reason::Reason;
 use std::error::Error;
 use std::fmt;
 
-// A refusal: why, by which part of the product, and where in a sheet or in calls. Line and field are 0 where there is none.
+// A refusal: why, by which part of the product, and where in a sheet or in calls. Line and field are 0 where there is none, as they are printed.
 #[derive(Clone, Copy, PartialEq, Eq, Debug)]
 pub struct Fault {
     pub reason: Reason,

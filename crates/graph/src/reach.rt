@@ -20,7 +20,7 @@ impl Edges<'_> {
         more
     }
 
-    // Marks the task and all to which token-free edges lead from it.
+    // Marks the task and all to which token-free edges lead from it, in fixed memory as all of a graph's making.
     fn reach_from(&self, task: usize) -> [bool; 16]
         requires { task < 16 }
         ensures { Reached self.now.list.now task result }
@@ -31,7 +31,7 @@ impl Edges<'_> {
         marked
     }
 
-    // The first task that lies on a ring whose edges hold no token.
+    // The first task that lies on a ring whose edges hold no token: a nested search left by a label, the form that this project keeps for it.
     pub(crate) fn first_on_ring(&self) -> Option<usize>
         ensures { MatchOption result (NoRing self.now.list.now self.now.tasks) (Topmost self.now.list.now self.now.tasks) }
     {

@@ -44,6 +44,7 @@ fn names_columns(line: &[u8], columns: &[Column]) -> bool
     ensures { IsTrue result ↔ (fields line.now ≡ map column_word columns.now) }
 {
     let mut rest = Fields::new(line, 0);
+    // A loop: each step takes a field off the line, which the closure of an `all` would hide from the proof.
     for column in columns {
         if Column::try_from(rest.next().part) != Ok(*column) {
             return false;

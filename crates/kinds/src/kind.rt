@@ -14,7 +14,7 @@ pub enum Kind {
 pub struct UnknownKind;
 
 impl Kind {
-    // The word by which a sheet names it.
+    // The word by which a sheet names it; no Display, since a writer puts its bytes.
     pub fn word(self) -> &'static str
         ensures { result.now ≡ kind_word self }
     {

@@ -36,11 +36,7 @@ impl<S: Server> Server for Inner<S> {
     ghost moves = { inner_moves S.Server.keeps S.Server.moves };
 
     fn tick(&mut self, claimed: bool) -> bool {
-        if self.below.tick(claimed) {
-            self.slice.tick(claimed)
-        } else {
-            false
-        }
+        self.below.tick(claimed) && self.slice.tick(claimed)
     }
 
     fn worst(&self, n: u64) -> Result<u64, Fault> {

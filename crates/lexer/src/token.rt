@@ -5,7 +5,7 @@ use faults::fault::Fault;
 use faults::layer::Layer;
 use faults::reason::Reason;
 
-// What a token is: a word begins with a letter, a number text with a digit.
+// What a token is: a number text begins with a digit, a word with another byte or not at all.
 #[derive(Clone, Copy, PartialEq, Eq, Debug)]
 pub enum Shape {
     Word,

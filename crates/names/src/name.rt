@@ -13,7 +13,7 @@ impl Name {
     ghost use Rattle.std.specs.Prelude.{◌≡◌, ◌<◌, length, MatchOption};
     ghost use Rattle.names.specs.Names.{name_bytes};
 
-    // The name that has these bytes; none where they are more than 12.
+    // The name that has these bytes; none where they are more than 12, the one way to fail, so no TryFrom with an error of its own.
     pub fn new(text: &[u8]) -> Option<Name>
         ensures { MatchOption result (12 < length text.now) (λ n. name_bytes n ≡ text.now) }
     {

@@ -13,23 +13,24 @@ module _ (n : ℕ) (p q : ℕ → Service) (k : ℕ) where
   pub beside_right : n ≤ k → beside n p q k ≡ q (k - n)
   beside_right h = ap (λ t. cond t (p k) (q (k - n))) (le-ltb k n h)
 
+-- Each place keeps the laws where each place of either rack does.
+pub beside_keeps : (n m : ℕ) (p q : ℕ → Service) → ((k : ℕ) → k < n → Laws (p k)) → ((k : ℕ) → k < m → Laws (q k)) → (k : ℕ) → k < places_beside n m → Laws (beside n p q k)
+beside_keeps n m p q first second k h =
+    ⊎_elim
+    (λ i. rw (beside_right n p q k i) (second (k - n) (omega arith)))
+    (λ i. rw (beside_left n p q k i) (first k i))
+    (le_or_lt n k)
+
 -- A rack of type A beside one of type B: the places of the first, and the services that both offer.
 module _ {A B : Type 0} {places_a : A → ℕ} {service_a : A → ℕ → Service} {service_b : B → ℕ → Service} where
-  -- Each place keeps the laws where each place of either rack does.
-  pub beside_keeps :
+  pub racks_keep :
       {places_b : B → ℕ} →
       ((a : A) (k : ℕ) → k < places_a a → Laws (service_a a k)) →
       ((b : B) (k : ℕ) → k < places_b b → Laws (service_b b k)) →
       (s : SideBySide A B) (k : ℕ) → k < places_beside (places_a s.first) (places_b s.second) →
       Laws (beside (places_a s.first) (service_a s.first) (service_b s.second) k)
-  beside_keeps first second s k h =
-      let n = places_a s.first in
-      let p = service_a s.first in
-      let q = service_b s.second in
-      ⊎_elim
-      (λ i. rw (beside_right n p q k i) (second s.second (k - n) (omega arith)))
-      (λ i. rw (beside_left n p q k i) (first s.first k i))
-      (le_or_lt n k)
+  racks_keep {places_b = places_b} first second s =
+      beside_keeps (places_a s.first) (places_b s.second) (service_a s.first) (service_b s.second) (first s.first) (second s.second)
 
   -- And the ticks of each: one of the first rack leaves it as many places as it has.
   module _

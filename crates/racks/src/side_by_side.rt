@@ -3,7 +3,7 @@ ghost use Rattle.std.proofs.Common.{rules};
 ghost use Rattle.faults.specs.Faults.{fault};
 ghost use Rattle.faults.specs.declared.layer.Layer.TheVariants.{Runner as AtRunner};
 ghost use Rattle.racks.specs.Beside.{places_beside, beside, Sided, OnSide};
-ghost use Rattle.racks.specs.Sides.{beside_keeps, beside_moves, beside_others};
+ghost use Rattle.racks.specs.Sides.{racks_keep, beside_moves, beside_others};
 
 use crate::rack::{Rack, no_place};
 use faults::fault::Fault;
@@ -34,7 +34,7 @@ impl<A: Rack, B: Rack> Rack for SideBySide<A, B> {
 
     ghost steps = { λ s k c g t. Sided A.Rack.steps B.Rack.steps (A.Rack.places s.first) s.first s.second k c g t.first t.second };
 
-    ghost keeps = { beside_keeps A.Rack.keeps B.Rack.keeps };
+    ghost keeps = { racks_keep A.Rack.keeps B.Rack.keeps };
 
     ghost moves = { beside_moves A.Rack.stays A.Rack.moves B.Rack.moves };
 

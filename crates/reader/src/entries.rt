@@ -12,7 +12,7 @@ use sheets::sheet::SheetTask;
 use std::alloc::{AllocError, Global};
 use std::marker::Model;
 
-// The tasks of a sheet as they were written, and for each its server and what a graph keeps of it.
+// The tasks of a sheet as they were written, and for each its server and what a graph keeps of it: three lists in step, since the sheet, the rack and the graph each keep one, and parting a list of three would allocate.
 #[derive(Drop)]
 pub(crate) struct Entries {
     tasks: Reserved<SheetTask, 16>,

@@ -14,7 +14,7 @@ use lexer::lines::Lines;
 pub(crate) fn read_lines(text: &[u8], room: Room) -> Result<Lists, Fault>
     ensures { Meets result (checks text.now) (ListsSay (meaning text.now)) }
 {
-    if text.len() == 0 || text.len() > 8192 {
+    if text.is_empty() || text.len() > 8192 {
         return Err(refused(Reason::SheetSize, 0, 0));
     }
     let Room {

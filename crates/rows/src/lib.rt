@@ -45,6 +45,7 @@ impl<S: Server> Rack for Row<S> {
     }
 
     fn tick(&mut self, place: usize, claimed: bool) -> Result<bool, Fault> {
+        // A match: behind an `ok_or_else` the proof would not know which server is written back.
         match self.servers.get_mut(place) {
             Some(server) => Ok(server.tick(claimed)),
             None => Err(no_place()),

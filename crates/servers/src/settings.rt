@@ -7,6 +7,7 @@ use faults::layer::Layer;
 use faults::reason::Reason;
 
 // What a planner writes of a server: `slice` ticks of every `period` are the task's, and `phase` ticks of the first period have passed at the start.
+// The line where they stand is no part of them: a task's settings and its layer's stand on one line, and a server built by calls has none.
 #[derive(Clone, Copy, PartialEq, Eq, Debug)]
 pub struct Settings {
     pub period: u64,

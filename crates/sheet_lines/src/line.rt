@@ -39,7 +39,7 @@ impl Line<'_> {
     pub(crate) fn must_be_whole(self) -> Result<(), Fault>
         ensures { Meets result (bad (missing self.entry.text.now) 3 self.entry.number 0 ∷ bad (not (well self.entry.text.now)) 2 self.entry.number 0 ∷ []) (λ _. well self.entry.text.now ≡ true) }
     {
-        self.must(self.text.len() > 0, Reason::Heading)?;
+        self.must(!self.text.is_empty(), Reason::Heading)?;
         self.must(is_well(self.text), Reason::ForeignByte)
     }
 }

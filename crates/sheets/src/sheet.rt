@@ -18,6 +18,7 @@ pub struct SheetTask {
 }
 
 // A sheet: its tasks as written, the graph that they make with the goal and the edges, and a rack of their servers in task order.
+// The tasks stand three times, as written, in the graph and in the rack, since graph and rack each keep their own.
 #[derive(Drop)]
 pub struct Sheet {
     pub tasks: Vec<SheetTask>,

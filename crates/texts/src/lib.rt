@@ -10,7 +10,7 @@ pub mod line;
 use itoa::Buffer;
 use std::alloc::AllocError;
 
-// Appends the bytes.
+// Appends the bytes. The buffer is the caller's own Vec, with no type of ours round it: nothing else goes with it.
 pub fn put(out: &mut Vec<u8>, bytes: &[u8]) -> Result<(), AllocError>
     ensures { Puts out.old bytes.now result out.new }
 {
@@ -39,7 +39,7 @@ pub fn put_each<T, F: Fn(&mut Vec<u8>, &T) -> Result<(), AllocError>>(
     Ok(())
 }
 
-// Appends all that `append` does, or nothing: where it fails, the buffer's contents are those of before.
+// Appends all that `append` does, or, where it fails, cuts the buffer back to as many bytes as it had, so that what was appended is gone.
 pub fn all_or_nothing<F: FnOnce(&mut Vec<u8>) -> Result<(), AllocError>>(
     out: &mut Vec<u8>,
     append: F,

@@ -23,7 +23,7 @@ fn put_cell(out: &mut Vec<u8>, cell: &Cell<'_>) -> Result<(), AllocError>
 }
 
 // A field that does not open its line: behind a space.
-fn put_next(out: &mut Vec<u8>, cell: &Cell<'_>) -> Result<(), AllocError>
+pub fn put_next(out: &mut Vec<u8>, cell: &Cell<'_>) -> Result<(), AllocError>
     ensures { Puts out.old (32 ∷ cell_text cell.now) result out.new }
 {
     put(out, b" ")?;
