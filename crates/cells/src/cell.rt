@@ -1,5 +1,6 @@
 ghost use Rattle.std.specs.Prelude.{◌≡◌, not, [], ◌∷◌};
 ghost use Rattle.cells.specs.Checks.{bad, Meets};
+ghost use Rattle.faults.specs.declared.reason.Reason.TheVariants.{NumberRange, Word};
 ghost use Rattle.cells.specs.Values.{value, number, named, a_kind, kind_of};
 
 use crate::bytes::{is_named, number_of};
@@ -10,7 +11,7 @@ use lexer::token::Token;
 
 // The number of a field, from `low` to `high`.
 pub fn number_in(t: Token<'_>, low: u32, high: u32) -> Result<u32, Fault>
-    ensures { Meets result (bad (not (number low high t.entry.part.now)) 5 t.entry.line t.entry.field ∷ []) (λ n. n ≡ value t.entry.part.now) }
+    ensures { Meets result (bad (not (number low high t.entry.part.now)) NumberRange t.entry.line t.entry.field ∷ []) (λ n. n ≡ value t.entry.part.now) }
 {
     number_of(t.part)
         .filter(|n| (low..=high).contains(n))
@@ -19,7 +20,7 @@ pub fn number_in(t: Token<'_>, low: u32, high: u32) -> Result<u32, Fault>
 
 // The name in a field.
 pub fn name_in<'a>(t: Token<'a>) -> Result<&'a [u8], Fault>
-    ensures { Meets result (bad (not (named t.entry.part.now)) 6 t.entry.line t.entry.field ∷ []) (λ n. n.now ≡ t.entry.part.now) }
+    ensures { Meets result (bad (not (named t.entry.part.now)) Word t.entry.line t.entry.field ∷ []) (λ n. n.now ≡ t.entry.part.now) }
 {
     if is_named(t.part) {
         Ok(t.part)
@@ -30,7 +31,7 @@ pub fn name_in<'a>(t: Token<'a>) -> Result<&'a [u8], Fault>
 
 // The kind that a field names.
 pub fn kind_in(t: Token<'_>) -> Result<Kind, Fault>
-    ensures { Meets result (bad (not (a_kind t.entry.part.now)) 6 t.entry.line t.entry.field ∷ []) (λ k. k ≡ kind_of t.entry.part.now) }
+    ensures { Meets result (bad (not (a_kind t.entry.part.now)) Word t.entry.line t.entry.field ∷ []) (λ k. k ≡ kind_of t.entry.part.now) }
 {
     let refused = t.refused(Reason::Word);
     Kind::try_from(t.part).map_err(|_| refused)

@@ -1,4 +1,5 @@
 ghost use Rattle.std.specs.Prelude.{◌≡◌, Some};
+ghost use Rattle.faults.specs.Faults.{fault};
 ghost use Rattle.faults.specs.Words.{word_of};
 
 use crate::fault::Fault;
@@ -33,7 +34,7 @@ impl Layer {
 
     // A refusal by this part; line and field are 0 where there is none.
     pub fn refuses(self, reason: Reason, line: u32, field: u32) -> Fault
-        ensures { result ≡ record { reason = reason; layer = self; line = line; field = field } }
+        ensures { result ≡ fault reason self line field }
     {
         Fault {
             reason,

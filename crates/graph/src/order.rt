@@ -1,13 +1,14 @@
 ghost use Rattle.std.specs.Prelude.{◌≡◌, ℕ, ◌<◌, ◌≤◌, slice_index};
 
+use crate::parts::MOST_TASKS;
 use std::array;
 
 // So many tasks in an order, and the place of each in it; in fixed memory, since making a graph may not fail for want of it.
 #[derive(Clone, Copy)]
 pub struct Order {
     pub tasks: usize,
-    pub list: [usize; 16],
-    pub place: [usize; 16],
+    pub list: [usize; MOST_TASKS],
+    pub place: [usize; MOST_TASKS],
     ghost few: { tasks ≤ 16 },
     ghost listed: { (q : ℕ) → q < tasks → slice_index list q < tasks },
     ghost placed: { (v : ℕ) → v < tasks → slice_index place v < tasks },

@@ -1,6 +1,9 @@
 ghost use Rattle.std.specs.Prelude.{◌≡◌, ◌<◌};
 ghost use Rattle.graph.specs.Lines.{line_of};
 
+// The line on which a sheet's first task stands.
+pub const FIRST_TASK_LINE: u32 = 5;
+
 // Where a graph comes from: built by calls, or read from a sheet, whose first task stands on line 5 and each other one line below.
 #[derive(Clone, Copy)]
 pub enum Origin {
@@ -16,7 +19,7 @@ impl Origin {
     {
         match self {
             Origin::Built => 0,
-            Origin::Sheet => 5 + task as u32,
+            Origin::Sheet => FIRST_TASK_LINE + task as u32,
         }
     }
 }

@@ -1,3 +1,15 @@
+// The most tasks and edges that a graph has, and the most tokens that an edge holds at the start.
+pub const MOST_TASKS: usize = 16;
+
+pub const MOST_EDGES: usize = 48;
+
+pub const MOST_TOKENS: u64 = 255;
+
+// The longest time of a firing and the longest goal, in ticks.
+pub const LONGEST_TIME: u64 = 65_535;
+
+pub const LONGEST_GOAL: u64 = 999_999_999;
+
 // A task of a graph: the ticks that a firing takes at most, and whether it has an inlet, where arrivals come from outside.
 #[derive(Clone, Copy)]
 pub struct Task {

@@ -3,10 +3,11 @@ ghost use Rattle.graph.specs.Edges.{Topmost, NoRing};
 ghost use Rattle.graph.specs.Reached.{Grown, Reached};
 
 use crate::edges::Edges;
+use crate::parts::MOST_TASKS;
 
 impl Edges<'_> {
     // Marks each task to which a token-free edge leads from a marked one, and says whether there was one.
-    fn grow(&self, marked: &mut [bool; 16]) -> bool
+    fn grow(&self, marked: &mut [bool; MOST_TASKS]) -> bool
         ensures { Grown self.now.list.now marked.old result marked.new }
     {
         let mut more = false;
@@ -21,11 +22,11 @@ impl Edges<'_> {
     }
 
     // Marks the task and all to which token-free edges lead from it, in fixed memory as all of a graph's making.
-    fn reach_from(&self, task: usize) -> [bool; 16]
+    fn reach_from(&self, task: usize) -> [bool; MOST_TASKS]
         requires { task < 16 }
         ensures { Reached self.now.list.now task result }
     {
-        let mut marked = [false; 16];
+        let mut marked = [false; MOST_TASKS];
         marked[task] = true;
         while self.grow(&mut marked) {}
         marked

@@ -1,5 +1,6 @@
 ghost use Rattle.std.specs.Prelude.{◌≡◌};
-ghost use Rattle.faults.specs.declared.layer.Layer.TheVariants.{Reader};
+ghost use Rattle.faults.specs.Faults.{fault};
+ghost use Rattle.faults.specs.declared.layer.Layer.TheVariants.{Reader as AtReader};
 
 use faults::fault::Fault;
 use faults::layer::Layer;
@@ -25,7 +26,7 @@ pub struct Token<'a> {
 impl Token<'_> {
     // The reader's refusal of this token, at its place.
     pub fn refused(&self, reason: Reason) -> Fault
-        ensures { result ≡ record { reason = reason; layer = Reader; line = self.now.line; field = self.now.field } }
+        ensures { result ≡ fault reason AtReader self.now.line self.now.field }
     {
         Layer::Reader.refuses(reason, self.line, self.field)
     }

@@ -1,10 +1,13 @@
 ghost use Rattle.std.specs.Prelude.{◌≤◌};
 
+// The most bytes of a name.
+pub const LONGEST: usize = 12;
+
 // The name of a task: up to 12 bytes, kept in place, so that a sheet does not hold on to the text that it was read from.
 // The length stands beside the bytes: reading never allocates, a name is copied with its task, as no ArrayVec is, and holds any bytes, as no ArrayString does.
 #[derive(Clone, Copy)]
 pub struct Name {
-    pub(crate) bytes: [u8; 12],
+    pub(crate) bytes: [u8; LONGEST],
     pub(crate) len: usize,
     ghost short: { len ≤ 12 },
 }
@@ -18,10 +21,10 @@ impl Name {
         ensures { MatchOption result (12 < length text.now) (λ n. name_bytes n ≡ text.now) }
     {
         let len = text.len();
-        if len > 12 {
+        if len > LONGEST {
             return None;
         }
-        let mut bytes = [0; 12];
+        let mut bytes = [0; LONGEST];
         bytes[..len].copy_from_slice(text);
         Some(Name { bytes, len })
     }

@@ -1,6 +1,7 @@
 ghost use Rattle.std.specs.Prelude.{◌≡◌, ◌<◌, MatchResult};
 ghost use Rattle.faults.specs.Faults.{fault};
 ghost use Rattle.faults.specs.declared.layer.Layer.TheVariants.{Runner as AtRunner};
+ghost use Rattle.faults.specs.declared.reason.Reason.TheVariants.{Missing};
 ghost use Rattle.std.proofs.Common.{rules};
 
 use crate::rack::{Rack, no_place};
@@ -15,7 +16,7 @@ pub struct One<S> {
 
 // Place 0 is there, and no other.
 fn only(place: usize) -> Result<(), Fault>
-    ensures { MatchResult result (λ _. place ≡ 0) (λ e. (e ≡ fault 13 AtRunner 0 0) × (0 < place)) }
+    ensures { MatchResult result (λ _. place ≡ 0) (λ e. (e ≡ fault Missing AtRunner 0 0) × (0 < place)) }
 {
     if place == 0 { Ok(()) } else { Err(no_place()) }
 }

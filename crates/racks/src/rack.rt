@@ -1,6 +1,7 @@
 ghost use Rattle.std.specs.Prelude.{◌≡◌, ℕ, ◌<◌, Bool, ◌≢◌};
 ghost use Rattle.faults.specs.Faults.{fault};
 ghost use Rattle.faults.specs.declared.layer.Layer.TheVariants.{Runner as AtRunner};
+ghost use Rattle.faults.specs.declared.reason.Reason.TheVariants.{Missing};
 ghost use Rattle.servers.specs.Service.{Service, Laws, Ticks};
 ghost use Rattle.racks.specs.Places.{Ticked, Asked};
 
@@ -45,7 +46,7 @@ pub trait Rack {
 
 // The refusal of a place that a rack lacks.
 pub fn no_place() -> Fault
-    ensures { result ≡ fault 13 AtRunner 0 0 }
+    ensures { result ≡ fault Missing AtRunner 0 0 }
 {
     Layer::Runner.refuses(Reason::Missing, 0, 0)
 }

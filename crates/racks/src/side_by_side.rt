@@ -2,6 +2,7 @@ ghost use Rattle.std.specs.Prelude.{◌≡◌, ◌-◌, ◌^◌, ◌≤◌, Matc
 ghost use Rattle.std.proofs.Common.{rules};
 ghost use Rattle.faults.specs.Faults.{fault};
 ghost use Rattle.faults.specs.declared.layer.Layer.TheVariants.{Runner as AtRunner};
+ghost use Rattle.faults.specs.declared.reason.Reason.TheVariants.{Missing};
 ghost use Rattle.racks.specs.Beside.{places_beside, beside, Sided, OnSide};
 ghost use Rattle.racks.specs.Sides.{racks_keep, beside_moves, beside_others};
 
@@ -18,7 +19,7 @@ pub struct SideBySide<A, B> {
 // The place of the second rack that a place of both is, or none where it is one of the first, which has `split` places.
 // The last number of a usize is no place, since the places are counted by one.
 fn in_second(split: usize, place: usize) -> Result<Option<usize>, Fault>
-    ensures { MatchResult result (OnSide split place) (λ e. (e ≡ fault 13 AtRunner 0 0) × (place ≡ 2 ^ 64 - 1) × (split ≤ place)) }
+    ensures { MatchResult result (OnSide split place) (λ e. (e ≡ fault Missing AtRunner 0 0) × (place ≡ 2 ^ 64 - 1) × (split ≤ place)) }
 {
     if place == usize::MAX {
         return Err(no_place());

@@ -3,6 +3,7 @@
 ghost use Rattle.std.specs.Prelude.{◌≡◌, ◌≤◌, MatchResult, Some, slice_get, vec_len};
 ghost use Rattle.faults.specs.Faults.{fault};
 ghost use Rattle.faults.specs.declared.layer.Layer.TheVariants.{Runner as AtRunner};
+ghost use Rattle.faults.specs.declared.reason.Reason.TheVariants.{Missing};
 ghost use Rattle.rows.specs.Rows.{row_service, RowSteps};
 ghost use Rattle.rows.specs.RowLaws.{row_keeps, row_moves, row_others};
 ghost use Rattle.std.proofs.Common.{rules};
@@ -19,7 +20,7 @@ pub struct Row<S> {
 
 impl<S> Row<S> {
     fn server_at(&self, place: usize) -> Result<&S, Fault>
-        ensures { MatchResult result (λ s. slice_get self.now.servers.items place ≡ Some s.now) (λ e. (e ≡ fault 13 AtRunner 0 0) × (vec_len self.now.servers ≤ place)) }
+        ensures { MatchResult result (λ s. slice_get self.now.servers.items place ≡ Some s.now) (λ e. (e ≡ fault Missing AtRunner 0 0) × (vec_len self.now.servers ≤ place)) }
     {
         self.servers.get(place).ok_or_else(no_place)
     }

@@ -1,10 +1,14 @@
 ghost use Rattle.std.specs.Prelude.{◌≡◌};
 ghost use Rattle.faults.specs.Faults.{fault};
 ghost use Rattle.faults.specs.declared.layer.Layer.TheVariants.{Server as AtServer};
+ghost use Rattle.faults.specs.declared.reason.Reason.TheVariants.{Settings as BadSettings};
 
 use faults::fault::Fault;
 use faults::layer::Layer;
 use faults::reason::Reason;
+
+// The longest period of a server, in ticks.
+pub const LONGEST_PERIOD: u64 = 65_535;
 
 // What a planner writes of a server: `slice` ticks of every `period` are the task's, and `phase` ticks of the first period have passed at the start.
 // The line where they stand is no part of them: a task's settings and its layer's stand on one line, and a server built by calls has none.
@@ -17,7 +21,7 @@ pub struct Settings {
 
 // The refusal of settings that stand on this line.
 pub(crate) fn refused(line: u32) -> Fault
-    ensures { result ≡ fault 10 AtServer line 0 }
+    ensures { result ≡ fault BadSettings AtServer line 0 }
 {
     Layer::Server.refuses(Reason::Settings, line, 0)
 }

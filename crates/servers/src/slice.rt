@@ -1,7 +1,7 @@
 ghost use Rattle.std.specs.Prelude.{◌<◌, ◌≤◌};
 
 use crate::figures::told;
-use crate::settings::{Settings, refused};
+use crate::settings::{LONGEST_PERIOD, Settings, refused};
 use faults::fault::Fault;
 
 // `ticks` of every `period` are a task's.
@@ -25,7 +25,7 @@ impl Slice {
         ensures { MakesSlice settings line result }
     {
         let Settings { period, slice, .. } = settings;
-        if period > 65_535 || slice == 0 || slice > period {
+        if period > LONGEST_PERIOD || slice == 0 || slice > period {
             return Err(refused(line));
         }
         Ok(Slice {

@@ -2,6 +2,7 @@
 use Rattle.std.specs.Prelude.{ℕ, not, List, [], ◌∷◌}
 use Rattle.faults.specs.Faults.{fault}
 use Rattle.faults.specs.declared.layer.Layer.TheVariants.{Server}
+use Rattle.faults.specs.declared.reason.Reason.TheVariants as reason
 use Rattle.cells.specs.Checks.{Check}
 use Rattle.headings.specs.Tables.{table_columns}
 use Rattle.headings.specs.declared.table.Table.TheVariants.{Tasks, Edges}
@@ -18,4 +19,4 @@ ends_checks ns line fs = cell_checks ns (table_columns Edges) line 0 0 fs
 
 -- The server's settings.
 abbrev pub server_checks : ℕ → Entry → List Check
-server_checks line e = record { broken = not (legal_server e); told = fault 10 Server line 0 } ∷ []
+server_checks line e = record { broken = not (legal_server e); told = fault reason.Settings Server line 0 } ∷ []

@@ -1,5 +1,5 @@
 ghost use Rattle.std.specs.Prelude.{◌≡◌, true, not, [], ◌∷◌};
-ghost use Rattle.faults.specs.declared.layer.Layer.TheVariants.{Reader as AtReader};
+ghost use Rattle.faults.specs.declared.reason.Reason.TheVariants.{ForeignByte, Heading};
 ghost use Rattle.cells.specs.Bytes.{well};
 ghost use Rattle.cells.specs.Checks.{bad, Meets};
 ghost use Rattle.sheets.specs.Checks.{empty, missing};
@@ -19,7 +19,7 @@ pub struct Line<'a> {
 impl Line<'_> {
     // Refuses the line as a whole, unless what has to hold of it does.
     pub fn must(self, holds: bool, reason: Reason) -> Result<(), Fault>
-        ensures { Meets result (record { broken = not holds; told = record { reason = reason; layer = AtReader; line = self.entry.number; field = 0 } } ∷ []) (λ _. holds ≡ true) }
+        ensures { Meets result (bad (not holds) reason self.entry.number 0 ∷ []) (λ _. holds ≡ true) }
     {
         if holds {
             Ok(())
@@ -37,7 +37,7 @@ impl Line<'_> {
 
     // Refuses a line that is not there, or has other bytes than those of the format and an end.
     pub(crate) fn must_be_whole(self) -> Result<(), Fault>
-        ensures { Meets result (bad (missing self.entry.text.now) 3 self.entry.number 0 ∷ bad (not (well self.entry.text.now)) 2 self.entry.number 0 ∷ []) (λ _. well self.entry.text.now ≡ true) }
+        ensures { Meets result (bad (missing self.entry.text.now) Heading self.entry.number 0 ∷ bad (not (well self.entry.text.now)) ForeignByte self.entry.number 0 ∷ []) (λ _. well self.entry.text.now ≡ true) }
     {
         self.must(!self.text.is_empty(), Reason::Heading)?;
         self.must(is_well(self.text), Reason::ForeignByte)

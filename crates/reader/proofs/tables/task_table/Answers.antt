@@ -14,6 +14,7 @@ use Rattle.reader.specs.TableChecks.{task_table}
 use Rattle.reader.proofs.LinesMore.{Entering, entered, stopped, closed}
 use Rattle.reader.proofs.tables.task_table.Goals as goal
 use Rattle.reader.proofs.tables.task_table.Goals.{In_ok-heading_in, In-Some, In_ok-task}
+use Rattle.faults.specs.declared.reason.Reason.TheVariants as reason
 
 -- the heading is in order
 headed : (c : In_ok-heading_in) → first (task_table (names c.args.entries.now) (lines_left c.args.lines.now)) ≡ first (entries_checks (names c.args.entries.now) (drop 1 (lines_left c.args.lines.now)))
@@ -34,7 +35,7 @@ returns-then-is_empty c =
     let h = goal.at.returns-then-is_empty c in
     let at : 5 + c.len.result ≡ 5 + length c.loop-text.entries = omega (arith, c.len.ensures.value) in
     let end = closed c.args.entries.now (drop 1 (lines_left c.args.lines.now)) c.loop-text.entries c.in-Some.text.now (lines_left c.next.new.self) _ (now h.In-Some) at (sym c.if-is_empty.ensures) in
-    let count = ap (λ n. first (bad (not (ltb 0 n)) 9 (5 + c.len.result) 0 ∷ [])) (sym c.len-then-is_empty.ensures.value) in
+    let count = ap (λ n. first (bad (not (ltb 0 n)) reason.Count (5 + c.len.result) 0 ∷ [])) (sym c.len-then-is_empty.ensures.value) in
     handed_back c.must.result _ _ _ _ (headed h.In_ok-heading_in ∙ end.decide ∙ count) (λ _ _. (end.say, end.past)) c.must.ensures
 
 pub returns-in_err-task : goal.returns-in_err-task
