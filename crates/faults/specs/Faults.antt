@@ -2,6 +2,8 @@
 use Rattle.std.specs.Prelude.{ℕ, List, ◌++◌, codes, decimal}
 use Rattle.faults.specs.Numbers.{number_of}
 use Rattle.faults.specs.Words.{word_of}
+use Rattle.faults.specs.declared.error.Error.{Error}
+use Rattle.faults.specs.declared.error.Error.TheVariants.{Refused, Memory}
 use Rattle.faults.specs.declared.fault.Fault.{Fault}
 use Rattle.faults.specs.declared.layer.Layer.{Layer}
 use Rattle.faults.specs.declared.reason.Reason.{Reason}
@@ -11,3 +13,8 @@ fault reason layer line field = record { reason = reason; layer = layer; line = 
 
 abbrev pub fault_line : Fault → List ℕ
 fault_line f = codes "refused " ++ (word_of f.layer ++ (codes " " ++ (decimal (number_of f.reason) ++ (codes " " ++ (decimal f.line ++ (codes " " ++ decimal f.field))))))
+
+-- An error is printed as its refusal, or says that memory ran out.
+abbrev pub error_text : Error → List ℕ
+error_text (Refused f) = fault_line f
+error_text Memory = codes "out of memory"

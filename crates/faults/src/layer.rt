@@ -2,11 +2,11 @@ ghost use Rattle.std.specs.Prelude.{◌≡◌, Some};
 ghost use Rattle.faults.specs.Faults.{fault};
 ghost use Rattle.faults.specs.Words.{word_of};
 
-use crate::fault::Fault;
+use crate::fault::{Fault, LineNumber};
 use crate::reason::Reason;
 use std::fmt;
 
-// Which part of the product refuses.
+/// Which part of the product refuses.
 #[derive(Clone, Copy, PartialEq, Eq, Debug)]
 pub enum Layer {
     Reader,
@@ -18,7 +18,7 @@ pub enum Layer {
 }
 
 impl Layer {
-    // The word that is printed.
+    /// The word that is printed.
     pub fn word(self) -> &'static str
         ensures { result.now ≡ word_of self }
     {
@@ -32,8 +32,8 @@ impl Layer {
         }
     }
 
-    // A refusal by this part; line and field are 0 where there is none.
-    pub fn refuses(self, reason: Reason, line: u32, field: u32) -> Fault
+    /// A refusal by this part; `field` is 0 where it is of none.
+    pub fn refuses(self, reason: Reason, line: LineNumber, field: u32) -> Fault
         ensures { result ≡ fault reason self line field }
     {
         Fault {

@@ -1,7 +1,7 @@
 ghost use Rattle.std.specs.Prelude.{◌≡◌};
 ghost use Rattle.faults.specs.Numbers.{number_of, reason_by};
 
-// Why a call refuses. Each case has a number, by which users know it and which docs/refusals.md lists.
+/// Why a call refuses. Each case has a number, by which users know it and which docs/refusals.md lists.
 #[derive(Clone, Copy, PartialEq, Eq, Debug)]
 pub enum Reason {
     SheetSize = 1,
@@ -26,11 +26,19 @@ pub enum Reason {
 }
 
 impl Reason {
-    // The number that is printed.
+    /// The number that is printed.
     pub fn number(self) -> u8
         ensures value { result ≡ number_of self }
         ensures known { reason_by result ≡ self }
     {
-        self as u8
+        u8::from(self)
+    }
+}
+
+impl From<Reason> for u8 {
+    ghost from_gives = { λ reason n. n ≡ number_of reason };
+
+    fn from(reason: Reason) -> u8 {
+        reason as u8
     }
 }

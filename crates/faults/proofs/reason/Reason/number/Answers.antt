@@ -7,8 +7,5 @@ use Rattle.faults.proofs.reason.Reason.number.Goals as goal
 at_its_number : (r : Reason) → reason_by (number_of r) ≡ r
 at_its_number r = grind arith
 
-pub returns-clause-value : goal.returns-clause-value
-returns-clause-value c = grind arith
-
 pub returns-clause-known : goal.returns-clause-known
-returns-clause-known c = rw (returns-clause-value c) (at_its_number c.args.self)
+returns-clause-known c = rw c.from.ensures (at_its_number c.args.self)
