@@ -9,6 +9,10 @@ kind_word Own = codes "own"
 kind_word Fixed = codes "fixed"
 kind_word Float = codes "float"
 
+-- what is printed of a word that names none
+abbrev pub unknown_kind : List ℕ
+unknown_kind = codes "no kind of server"
+
 -- The result is the kind whose word this is, or the error where it is the word of none.
 abbrev pub Names : List ℕ → Result Kind UnknownKind → Type 0
 Names bs r = MatchResult r (λ k. bs ≡ kind_word k) (λ _. (k : Kind) → bs ≢ kind_word k)

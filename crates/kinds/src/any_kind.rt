@@ -1,13 +1,13 @@
 use crate::kind::Kind;
-use faults::fault::Fault;
+use faults::fault::{Fault, LineNumber};
 use servers::fixed::Fixed;
 use servers::float::Float;
 use servers::own::Own;
 use servers::server::Server;
 use servers::settings::Settings;
 
-// A server of any of the kinds.
-#[derive(Clone, Copy)]
+/// A server of any of the kinds.
+#[derive(Clone, Copy, PartialEq, Eq, Debug)]
 pub enum AnyKind {
     Own(Own),
     Fixed(Fixed),
@@ -17,8 +17,8 @@ pub enum AnyKind {
 impl AnyKind {
     ghost use Rattle.kinds.specs.AnyKinds.{MakesAny};
 
-    // `line` is where the settings stand in a sheet, 0 without one.
-    pub fn new(kind: Kind, settings: Settings, line: u32) -> Result<AnyKind, Fault>
+    /// A server of this kind, where the kind takes the settings.
+    pub fn new(kind: Kind, settings: Settings, line: LineNumber) -> Result<AnyKind, Fault>
         ensures { MakesAny kind settings line result }
     {
         match kind {
@@ -29,7 +29,17 @@ impl AnyKind {
     }
 }
 
-// A match a method: one helper for them would take a closure over `&dyn Server`, with a contract of its own, and be no plainer.
+// The same call on the server of whichever kind is there.
+macro_rules! for_any {
+    ($any:expr, $server:ident => $result:expr) => {
+        match $any {
+            AnyKind::Own($server) => $result,
+            AnyKind::Fixed($server) => $result,
+            AnyKind::Float($server) => $result,
+        }
+    };
+}
+
 impl Server for AnyKind {
     ghost use Rattle.kinds.specs.AnyKinds.{any_service, AnySteps};
     ghost use Rattle.kinds.specs.AnyKindLaws.{any_laws, any_moves};
@@ -43,34 +53,18 @@ impl Server for AnyKind {
     ghost moves = { any_moves };
 
     fn tick(&mut self, claimed: bool) -> bool {
-        match self {
-            AnyKind::Own(s) => s.tick(claimed),
-            AnyKind::Fixed(s) => s.tick(claimed),
-            AnyKind::Float(s) => s.tick(claimed),
-        }
+        for_any!(self, server => server.tick(claimed))
     }
 
     fn worst(&self, n: u64) -> Result<u64, Fault> {
-        match self {
-            AnyKind::Own(s) => s.worst(n),
-            AnyKind::Fixed(s) => s.worst(n),
-            AnyKind::Float(s) => s.worst(n),
-        }
+        for_any!(self, server => server.worst(n))
     }
 
     fn lead(&self) -> Result<u64, Fault> {
-        match self {
-            AnyKind::Own(s) => s.lead(),
-            AnyKind::Fixed(s) => s.lead(),
-            AnyKind::Float(s) => s.lead(),
-        }
+        for_any!(self, server => server.lead())
     }
 
     fn pace(&self, n: u64) -> Result<u64, Fault> {
-        match self {
-            AnyKind::Own(s) => s.pace(n),
-            AnyKind::Fixed(s) => s.pace(n),
-            AnyKind::Float(s) => s.pace(n),
-        }
+        for_any!(self, server => server.pace(n))
     }
 }

@@ -1,7 +1,10 @@
-ghost use Rattle.std.specs.Prelude.{◌≡◌};
-ghost use Rattle.kinds.specs.Words.{kind_word, Names};
+ghost use Rattle.std.specs.Prelude.{◌≡◌, Some};
+ghost use Rattle.kinds.specs.Words.{kind_word, unknown_kind, Names};
 
-// The kinds of server that a sheet can name.
+use std::error::Error;
+use std::fmt;
+
+/// The kinds of server that a sheet can name.
 #[derive(Clone, Copy, PartialEq, Eq, Debug)]
 pub enum Kind {
     Own,
@@ -9,12 +12,22 @@ pub enum Kind {
     Float,
 }
 
-// A word that names no kind.
+/// A word that names no kind.
 #[derive(Clone, Copy, PartialEq, Eq, Debug)]
 pub struct UnknownKind;
 
+impl fmt::Display for UnknownKind {
+    ghost output = { λ _. Some unknown_kind };
+
+    fn fmt<W: fmt::Write>(&self, f: &mut fmt::Formatter<W>) -> fmt::Result {
+        write!(f, "no kind of server")
+    }
+}
+
+impl Error for UnknownKind {}
+
 impl Kind {
-    // The word by which a sheet names it; no Display, since a writer puts its bytes.
+    /// The word by which a sheet names it; no Display, since a writer puts its bytes.
     pub fn word(self) -> &'static str
         ensures { result.now ≡ kind_word self }
     {
@@ -26,7 +39,7 @@ impl Kind {
     }
 }
 
-// The kind that a word names.
+/// The kind that a word names.
 impl TryFrom<&[u8]> for Kind {
     type Error = UnknownKind;
 

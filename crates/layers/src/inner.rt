@@ -1,11 +1,11 @@
-use faults::fault::Fault;
+use faults::fault::{Fault, LineNumber};
 use servers::figures::told;
 use servers::fixed::Fixed;
 use servers::server::Server;
 use servers::settings::Settings;
 
-// A layer over any server: a fixed slice of its own, kept in the ticks that the server below grants.
-#[derive(Clone, Copy)]
+/// A layer over any server: a fixed slice of its own, kept in the ticks that the server below grants.
+#[derive(Clone, Copy, PartialEq, Eq, Debug)]
 pub struct Inner<S> {
     pub(crate) below: S,
     pub(crate) slice: Fixed,
@@ -14,8 +14,8 @@ pub struct Inner<S> {
 impl<S: Drop> Inner<S> {
     ghost use Rattle.layers.specs.InnerService.{MakesInner};
 
-    // The layer's settings are those of a fixed slice. `line` is where they stand in a sheet, 0 without one.
-    pub fn new(below: S, layer: Settings, line: u32) -> Result<Inner<S>, Fault>
+    /// The layer's settings are those of a fixed slice.
+    pub fn new(below: S, layer: Settings, line: LineNumber) -> Result<Inner<S>, Fault>
         ensures { MakesInner below layer line result }
     {
         let slice = Fixed::new(layer, line)?;

@@ -1,10 +1,10 @@
 use crate::inner::Inner;
-use faults::fault::Fault;
+use faults::fault::{Fault, LineNumber};
 use servers::server::Server;
 use servers::settings::Settings;
 
-// A server as it is, or with an inner layer over it.
-#[derive(Clone, Copy)]
+/// A server as it is, or with an inner layer over it.
+#[derive(Clone, Copy, PartialEq, Eq, Debug)]
 pub enum Stack<S> {
     Bare(S),
     Layered(Inner<S>),
@@ -13,23 +13,27 @@ pub enum Stack<S> {
 impl<S: Drop> Stack<S> {
     ghost use Rattle.layers.specs.Stacks.{MakesStack};
 
-    // A layer's settings 0 0 0 mean no layer. `line` is where they stand in a sheet, 0 without one.
-    pub fn new(below: S, layer: Settings, line: u32) -> Result<Stack<S>, Fault>
+    /// `Settings::NONE` means no layer. No `Option`: a planner writes three numbers for a layer, and a `Some` of 0 0 0 would have to be refused.
+    pub fn new(below: S, layer: Settings, line: LineNumber) -> Result<Stack<S>, Fault>
         ensures { MakesStack below layer line result }
     {
-        let none = Settings {
-            period: 0,
-            slice: 0,
-            phase: 0,
-        };
-        if layer == none {
+        if layer == Settings::NONE {
             return Ok(Stack::Bare(below));
         }
         Inner::new(below, layer, line).map(Stack::Layered)
     }
 }
 
-// A match a method: one helper for them would take a closure over `&dyn Server`, with a contract of its own, and be no plainer.
+// The same call on what stands there.
+macro_rules! for_either {
+    ($stack:expr, $server:ident => $result:expr) => {
+        match $stack {
+            Stack::Bare($server) => $result,
+            Stack::Layered($server) => $result,
+        }
+    };
+}
+
 impl<S: Server> Server for Stack<S> {
     ghost use Rattle.layers.specs.Stacks.{stack_service, StackSteps};
     ghost use Rattle.layers.specs.StackLaws.{stack_laws, stack_moves};
@@ -43,30 +47,18 @@ impl<S: Server> Server for Stack<S> {
     ghost moves = { stack_moves S.Server.keeps S.Server.moves };
 
     fn tick(&mut self, claimed: bool) -> bool {
-        match self {
-            Stack::Bare(s) => s.tick(claimed),
-            Stack::Layered(s) => s.tick(claimed),
-        }
+        for_either!(self, server => server.tick(claimed))
     }
 
     fn worst(&self, n: u64) -> Result<u64, Fault> {
-        match self {
-            Stack::Bare(s) => s.worst(n),
-            Stack::Layered(s) => s.worst(n),
-        }
+        for_either!(self, server => server.worst(n))
     }
 
     fn lead(&self) -> Result<u64, Fault> {
-        match self {
-            Stack::Bare(s) => s.lead(),
-            Stack::Layered(s) => s.lead(),
-        }
+        for_either!(self, server => server.lead())
     }
 
     fn pace(&self, n: u64) -> Result<u64, Fault> {
-        match self {
-            Stack::Bare(s) => s.pace(n),
-            Stack::Layered(s) => s.pace(n),
-        }
+        for_either!(self, server => server.pace(n))
     }
 }

@@ -4,10 +4,10 @@ use faults::fault::Fault;
 use faults::layer::Layer;
 use faults::reason::Reason;
 
-// The largest figure that is told, in ticks.
+/// The largest figure that is told, in ticks.
 pub const CEILING: u64 = 1_000_000_000_000;
 
-// A server's figure, or the refusal of one above the ceiling.
+/// A server's figure, or the refusal of one above the ceiling.
 pub fn told(figure: u64) -> Result<u64, Fault>
     ensures { Tells figure result }
 {

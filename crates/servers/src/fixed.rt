@@ -4,10 +4,10 @@ use crate::figures::told;
 use crate::server::Server;
 use crate::settings::{Settings, refused};
 use crate::slice::Slice;
-use faults::fault::Fault;
+use faults::fault::{Fault, LineNumber};
 
-// The first ticks of every period, a slice, are granted; `position` ticks of this one have passed.
-#[derive(Clone, Copy)]
+/// The first ticks of every period, a slice, are granted; `position` ticks of this one have passed.
+#[derive(Clone, Copy, PartialEq, Eq, Debug)]
 pub struct Fixed {
     pub(crate) slice: Slice,
     pub(crate) position: u64,
@@ -20,8 +20,8 @@ impl Fixed {
     ghost use Rattle.servers.specs.Settings.{MakesFixed};
     ghost use Rattle.servers.specs.Slices.{wait_at, worst_of};
 
-    // `line` is where the settings stand in a sheet, 0 without one.
-    pub fn new(settings: Settings, line: u32) -> Result<Fixed, Fault>
+    /// A slice that starts at its phase, which is below the period.
+    pub fn new(settings: Settings, line: LineNumber) -> Result<Fixed, Fault>
         ensures { MakesFixed settings line result }
     {
         let slice = Slice::new(settings, line)?;
@@ -34,7 +34,7 @@ impl Fixed {
         })
     }
 
-    // A phase in which every wait is the worst: the slice has just closed. And a wait is exact: the n-th grant comes at it.
+    /// A phase in which every wait is the worst: the slice has just closed. And a wait is exact: the n-th grant comes at it.
     #[tactic(auto, using(crate::proofs::WorstPhase::worst_after, crate::proofs::WorstPhase::worst_whole))]
     pub fn worst_phase(&self) -> u64
         ensures within { result < self.now.slice.period }
@@ -63,8 +63,7 @@ impl Server for Fixed {
 
     fn tick(&mut self, _claimed: bool) -> bool {
         let granted = self.position < self.slice.ticks;
-        let next = self.position + 1;
-        self.position = if next < self.slice.period { next } else { 0 };
+        self.position = (self.position + 1) % self.slice.period;
         granted
     }
 

@@ -4,10 +4,10 @@ use crate::figures::told;
 use crate::server::Server;
 use crate::settings::{Settings, refused};
 use crate::slice::Slice;
-use faults::fault::Fault;
+use faults::fault::{Fault, LineNumber};
 
-// A slice of every period is granted, where others leave it: of this one `passed` ticks have gone, and `given` were granted.
-#[derive(Clone, Copy)]
+/// A slice of every period is granted, where others leave it: of this one `passed` ticks have gone, and `given` were granted.
+#[derive(Clone, Copy, PartialEq, Eq, Debug)]
 pub struct Float {
     pub(crate) slice: Slice,
     pub(crate) passed: u64,
@@ -22,9 +22,9 @@ impl Float {
     ghost use Rattle.servers.specs.Exactly.{EachPeriod};
     ghost use Rattle.servers.specs.Settings.{MakesFloat};
 
-    // A float has no phase but 0. `line` is where the settings stand in a sheet, 0 without one.
+    /// A float has no phase but 0.
     #[tactic(auto, using(crate::proofs::GrantsExact::each_period))]
-    pub fn new(settings: Settings, line: u32) -> Result<Float, Fault>
+    pub fn new(settings: Settings, line: LineNumber) -> Result<Float, Fault>
         ensures made { MakesFloat settings line result }
         ensures exact { EachPeriod }
     {
@@ -55,6 +55,7 @@ impl Server for Float {
     fn tick(&mut self, claimed: bool) -> bool {
         let owed = self.slice.ticks - self.given;
         let granted = owed > 0 && (!claimed || owed == self.slice.period - self.passed);
+        // An `if`: both start anew together, and beside a `%` for one the other would still be tested for.
         let passed = self.passed + 1;
         let given = self.given + u64::from(granted);
         (self.passed, self.given) = if passed < self.slice.period {

@@ -5,23 +5,18 @@ ghost use Rattle.servers.specs.OwnLaws.{own_laws, own_moves};
 use crate::figures::told;
 use crate::server::Server;
 use crate::settings::{Settings, refused};
-use faults::fault::Fault;
+use faults::fault::{Fault, LineNumber};
 
-// A processor of the task's own: every tick is granted.
-#[derive(Clone, Copy)]
+/// A processor of the task's own: every tick is granted.
+#[derive(Clone, Copy, PartialEq, Eq, Debug)]
 pub struct Own;
 
 impl Own {
-    // Its settings are 1 1 0 and no others. `line` is where they stand in a sheet, 0 without one.
-    pub fn new(settings: Settings, line: u32) -> Result<Own, Fault>
+    /// Its settings are 1 1 0 and no others.
+    pub fn new(settings: Settings, line: LineNumber) -> Result<Own, Fault>
         ensures { MakesOwn settings line result }
     {
-        let whole = Settings {
-            period: 1,
-            slice: 1,
-            phase: 0,
-        };
-        if settings != whole {
+        if settings != Settings::WHOLE {
             return Err(refused(line));
         }
         Ok(Own)

@@ -2,10 +2,10 @@ ghost use Rattle.std.specs.Prelude.{◌<◌, ◌≤◌};
 
 use crate::figures::told;
 use crate::settings::{LONGEST_PERIOD, Settings, refused};
-use faults::fault::Fault;
+use faults::fault::{Fault, LineNumber};
 
-// `ticks` of every `period` are a task's.
-#[derive(Clone, Copy)]
+/// `ticks` of every `period` are a task's.
+#[derive(Clone, Copy, PartialEq, Eq, Debug)]
 pub(crate) struct Slice {
     pub(crate) period: u64,
     pub(crate) ticks: u64,
@@ -20,8 +20,8 @@ impl Slice {
     ghost use Rattle.servers.specs.Settings.{MakesSlice};
     ghost use Rattle.servers.specs.Slices.{worst_of, pace_of};
 
-    // `line` is where the settings stand in a sheet, 0 without one; their phase is not read.
-    pub(crate) fn new(settings: Settings, line: u32) -> Result<Slice, Fault>
+    /// The phase of the settings is not read.
+    pub(crate) fn new(settings: Settings, line: LineNumber) -> Result<Slice, Fault>
         ensures { MakesSlice settings line result }
     {
         let Settings { period, slice, .. } = settings;
@@ -34,14 +34,14 @@ impl Slice {
         })
     }
 
-    // The ticks of a period that are not the task's.
+    /// The ticks of a period that are not the task's.
     pub(crate) fn gap(self) -> u64
         ensures { result ≡ self.period - self.ticks }
     {
         self.period - self.ticks
     }
 
-    // The worst wait for n grants: n, and a gap before each slice that is begun.
+    /// The worst wait for n grants: n, and a gap before each slice that is begun.
     #[tactic(auto, using(crate::specs::Rounding::up_quotient))]
     pub(crate) fn worst(self, n: u64) -> Result<u64, Fault>
         ensures { Tells (worst_of self.period self.ticks n) result }
@@ -50,7 +50,7 @@ impl Slice {
         told(n + self.gap() * n.div_ceil(self.ticks))
     }
 
-    // The ticks for n grants at the slice's rate.
+    /// The ticks for n grants at the slice's rate.
     #[tactic(auto, using(crate::specs::Rounding::up_quotient, crate::specs::SliceLaws::pace_least))]
     pub(crate) fn pace(self, n: u64) -> Result<u64, Fault>
         ensures { Tells (pace_of self.period self.ticks n) result }
