@@ -21,6 +21,7 @@ impl AnyKind {
     pub fn new(kind: Kind, settings: Settings, line: LineNumber) -> Result<AnyKind, Fault>
         ensures { MakesAny kind settings line result }
     {
+        // A match: the three makers answer three types.
         match kind {
             Kind::Own => Own::new(settings, line).map(AnyKind::Own),
             Kind::Fixed => Fixed::new(settings, line).map(AnyKind::Fixed),

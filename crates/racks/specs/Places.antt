@@ -6,12 +6,16 @@ use Rattle.faults.specs.declared.layer.Layer.TheVariants.{Runner}
 use Rattle.faults.specs.declared.reason.Reason.TheVariants as reason
 use Rattle.servers.specs.Figures.{Tells}
 
+-- the refusal of a place that a rack lacks
+abbrev pub missing_place : Fault
+missing_place = fault reason.Missing Runner 0 0
+
 -- A tick at place k: of one that is there it is a step; a missing one is refused by 13, and nothing changes.
 abbrev pub Ticked : {S : Type 0} → (S → ℕ) → (S → ℕ → Bool → Bool → S → Type 0) → S → ℕ → Bool → Result Bool Fault → S → Type 0
 Ticked places steps a k claimed r b =
-    MatchResult r (λ granted. (k < places a) × steps a k claimed granted b) (λ e. (e ≡ fault reason.Missing Runner 0 0) × (places a ≤ k) × (b ≡ a))
+    MatchResult r (λ granted. (k < places a) × steps a k claimed granted b) (λ e. (e ≡ missing_place) × (places a ≤ k) × (b ≡ a))
 
 -- The figure x at place k: a missing place is refused by 13, and else the figure is told as a server tells it.
 pub record Asked (places k x : ℕ) (r : Result ℕ Fault) : Type 0 where
-  pub missing : places ≤ k → r ≡ Err (fault reason.Missing Runner 0 0)
+  pub missing : places ≤ k → r ≡ Err missing_place
   pub there : k < places → Tells x r

@@ -1,8 +1,8 @@
 -- The places of two racks side by side, and the laws that they keep where both racks do.
 use Rattle.std.specs.Prelude.{◌≡◌, ◌≢◌, ℕ, ◌-◌, ◌<◌, ◌≤◌, Bool, cond}
 use Rattle.std.proofs.Common.{sym, ap, ◌∙◌, ⊎_elim, arith, lt-ltb, le-ltb}
+use Rattle.std.proofs.lemmas.Bool.{cases_lt}
 use Rattle.servers.specs.Service.{Service, Laws, Ticks}
-use Rattle.servers.specs.Rounding.{le_or_lt}
 use Rattle.racks.specs.Beside.{places_beside, beside, Sided}
 use Rattle.racks.specs.declared.side_by_side.SideBySide.{SideBySide}
 
@@ -17,9 +17,9 @@ module _ (n : ℕ) (p q : ℕ → Service) (k : ℕ) where
 pub beside_keeps : (n m : ℕ) (p q : ℕ → Service) → ((k : ℕ) → k < n → Laws (p k)) → ((k : ℕ) → k < m → Laws (q k)) → (k : ℕ) → k < places_beside n m → Laws (beside n p q k)
 beside_keeps n m p q first second k h =
     ⊎_elim
-    (λ i. rw (beside_right n p q k i) (second (k - n) (omega arith)))
     (λ i. rw (beside_left n p q k i) (first k i))
-    (le_or_lt n k)
+    (λ i. rw (beside_right n p q k i) (second (k - n) (omega arith)))
+    (cases_lt k n)
 
 -- A rack of type A beside one of type B: the places of the first, and the services that both offer.
 module _ {A B : Type 0} {places_a : A → ℕ} {service_a : A → ℕ → Service} {service_b : B → ℕ → Service} where
@@ -77,15 +77,15 @@ module _ {A B : Type 0} {places_a : A → ℕ} {service_a : A → ℕ → Servic
         (λ h.
         let e : n' ≡ n = stays s.first t.first k c g h.1 in
         ⊎_elim
-        (λ i. beside_right n' p' q' j (omega arith) ∙ ap (λ x. service_b x (j - n')) h.2 ∙ ap (λ x. q (j - x)) e ∙ sym (beside_right n p q j i))
         (λ i. beside_left n' p' q' j (omega arith) ∙ others_a s.first t.first k c g h.1 j i apart ∙ sym (beside_left n p q j i))
-        (le_or_lt n j))
+        (λ i. beside_right n' p' q' j (omega arith) ∙ ap (λ x. service_b x (j - n')) h.2 ∙ ap (λ x. q (j - x)) e ∙ sym (beside_right n p q j i))
+        (cases_lt j n))
         (λ h.
         let e : n' ≡ n = ap places_a h.2 in
         ⊎_elim
+        (λ i. beside_left n' p' q' j (omega arith) ∙ ap (λ x. service_a x j) h.2 ∙ sym (beside_left n p q j i))
         (λ i.
         beside_right n' p' q' j (omega arith) ∙ ap (λ x. q' (j - x)) e
         ∙ others_b s.second t.second (k - n) c g h.1 (j - n) (omega arith) (λ z. apart (omega arith)) ∙ sym (beside_right n p q j i))
-        (λ i. beside_left n' p' q' j (omega arith) ∙ ap (λ x. service_a x j) h.2 ∙ sym (beside_left n p q j i))
-        (le_or_lt n j))
+        (cases_lt j n))
         m

@@ -1,22 +1,20 @@
 ghost use Rattle.std.specs.Prelude.{◌≡◌, ◌<◌, MatchResult};
-ghost use Rattle.faults.specs.Faults.{fault};
-ghost use Rattle.faults.specs.declared.layer.Layer.TheVariants.{Runner as AtRunner};
-ghost use Rattle.faults.specs.declared.reason.Reason.TheVariants.{Missing};
+ghost use Rattle.racks.specs.Places.{missing_place};
 ghost use Rattle.std.proofs.Common.{rules};
 
 use crate::rack::{Rack, no_place};
 use faults::fault::Fault;
 use servers::server::Server;
 
-// A rack of one place.
-#[derive(Drop)]
+/// A rack of one place.
+#[derive(PartialEq, Eq, Debug, Drop)]
 pub struct One<S> {
     pub server: S,
 }
 
-// Place 0 is there, and no other.
+// Place 0 is there, and no other. It answers no server, since a tick wants one to change and the others one to read.
 fn only(place: usize) -> Result<(), Fault>
-    ensures { MatchResult result (λ _. place ≡ 0) (λ e. (e ≡ fault Missing AtRunner 0 0) × (0 < place)) }
+    ensures { MatchResult result (λ _. place ≡ 0) (λ e. (e ≡ missing_place) × (0 < place)) }
 {
     if place == 0 { Ok(()) } else { Err(no_place()) }
 }

@@ -1,16 +1,14 @@
 ghost use Rattle.std.specs.Prelude.{◌≡◌, ◌-◌, ◌^◌, ◌≤◌, MatchResult};
 ghost use Rattle.std.proofs.Common.{rules};
-ghost use Rattle.faults.specs.Faults.{fault};
-ghost use Rattle.faults.specs.declared.layer.Layer.TheVariants.{Runner as AtRunner};
-ghost use Rattle.faults.specs.declared.reason.Reason.TheVariants.{Missing};
+ghost use Rattle.racks.specs.Places.{missing_place};
 ghost use Rattle.racks.specs.Beside.{places_beside, beside, Sided, OnSide};
 ghost use Rattle.racks.specs.Sides.{racks_keep, beside_moves, beside_others};
 
 use crate::rack::{Rack, no_place};
 use faults::fault::Fault;
 
-// Two racks side by side: the places of the first, and then those of the second, as many as a usize counts.
-#[derive(Drop)]
+/// Two racks side by side: the places of the first, and then those of the second, as many as a usize counts.
+#[derive(PartialEq, Eq, Debug, Drop)]
 pub struct SideBySide<A, B> {
     pub first: A,
     pub second: B,
@@ -19,7 +17,7 @@ pub struct SideBySide<A, B> {
 // The place of the second rack that a place of both is, or none where it is one of the first, which has `split` places.
 // The last number of a usize is no place, since the places are counted by one.
 fn in_second(split: usize, place: usize) -> Result<Option<usize>, Fault>
-    ensures { MatchResult result (OnSide split place) (λ e. (e ≡ fault Missing AtRunner 0 0) × (place ≡ 2 ^ 64 - 1) × (split ≤ place)) }
+    ensures { MatchResult result (OnSide split place) (λ e. (e ≡ missing_place) × (place ≡ 2 ^ 64 - 1) × (split ≤ place)) }
 {
     if place == usize::MAX {
         return Err(no_place());
@@ -27,7 +25,16 @@ fn in_second(split: usize, place: usize) -> Result<Option<usize>, Fault>
     Ok(place.checked_sub(split))
 }
 
-// A match a method: closures for both sides would name both calls as often, with a contract of their own, and be no plainer.
+// The same call on the rack that has a place, by its number there.
+macro_rules! at_its_rack {
+    ($racks:expr, $method:ident($place:expr $(, $argument:expr)*)) => {
+        match in_second($racks.first.places(), $place)? {
+            None => $racks.first.$method($place $(, $argument)*),
+            Some(place) => $racks.second.$method(place $(, $argument)*),
+        }
+    };
+}
+
 impl<A: Rack, B: Rack> Rack for SideBySide<A, B> {
     ghost places = { λ s. places_beside (A.Rack.places s.first) (B.Rack.places s.second) };
 
@@ -50,30 +57,18 @@ impl<A: Rack, B: Rack> Rack for SideBySide<A, B> {
     }
 
     fn tick(&mut self, place: usize, claimed: bool) -> Result<bool, Fault> {
-        match in_second(self.first.places(), place)? {
-            None => self.first.tick(place, claimed),
-            Some(k) => self.second.tick(k, claimed),
-        }
+        at_its_rack!(self, tick(place, claimed))
     }
 
     fn worst(&self, place: usize, n: u64) -> Result<u64, Fault> {
-        match in_second(self.first.places(), place)? {
-            None => self.first.worst(place, n),
-            Some(k) => self.second.worst(k, n),
-        }
+        at_its_rack!(self, worst(place, n))
     }
 
     fn lead(&self, place: usize) -> Result<u64, Fault> {
-        match in_second(self.first.places(), place)? {
-            None => self.first.lead(place),
-            Some(k) => self.second.lead(k),
-        }
+        at_its_rack!(self, lead(place))
     }
 
     fn pace(&self, place: usize, n: u64) -> Result<u64, Fault> {
-        match in_second(self.first.places(), place)? {
-            None => self.first.pace(place, n),
-            Some(k) => self.second.pace(k, n),
-        }
+        at_its_rack!(self, pace(place, n))
     }
 }

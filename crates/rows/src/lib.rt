@@ -1,9 +1,7 @@
 #![tactic(auto)]
 
 ghost use Rattle.std.specs.Prelude.{◌≡◌, ◌≤◌, MatchResult, Some, slice_get, vec_len};
-ghost use Rattle.faults.specs.Faults.{fault};
-ghost use Rattle.faults.specs.declared.layer.Layer.TheVariants.{Runner as AtRunner};
-ghost use Rattle.faults.specs.declared.reason.Reason.TheVariants.{Missing};
+ghost use Rattle.racks.specs.Places.{missing_place};
 ghost use Rattle.rows.specs.Rows.{row_service, RowSteps};
 ghost use Rattle.rows.specs.RowLaws.{row_keeps, row_moves, row_others};
 ghost use Rattle.std.proofs.Common.{rules};
@@ -12,15 +10,15 @@ use faults::fault::Fault;
 use racks::rack::{Rack, no_place};
 use servers::server::Server;
 
-// Servers of one type in a row, one to a place.
-#[derive(Drop)]
+/// Servers of one type in a row, one to a place.
+#[derive(PartialEq, Eq, Debug, Drop)]
 pub struct Row<S> {
     pub servers: Vec<S>,
 }
 
 impl<S> Row<S> {
     fn server_at(&self, place: usize) -> Result<&S, Fault>
-        ensures { MatchResult result (λ s. slice_get self.now.servers.items place ≡ Some s.now) (λ e. (e ≡ fault Missing AtRunner 0 0) × (vec_len self.now.servers ≤ place)) }
+        ensures { MatchResult result (λ s. slice_get self.now.servers.items place ≡ Some s.now) (λ e. (e ≡ missing_place) × (vec_len self.now.servers ≤ place)) }
     {
         self.servers.get(place).ok_or_else(no_place)
     }
