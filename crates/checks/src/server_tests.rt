@@ -1,4 +1,4 @@
-use faults::fault::Fault;
+use faults::fault::{Fault, LineNumber};
 use faults::layer::Layer;
 use faults::reason::Reason;
 use kinds::any_kind::AnyKind;
@@ -17,6 +17,13 @@ use servers::settings::Settings;
 use std::process::Abort;
 use std::test::Fail;
 
+// Of one tick each: 'x' is claimed by others.
+const QUIET: &[u8; 20] = b"....................";
+
+const BUSY: &[u8; 20] = b"xxxxxxxxxxxxxxxxxxxx";
+
+const MIXED: &[u8; 20] = b"x.xx..x.xxxxxxxx.xxx";
+
 fn settings(period: u64, slice: u64, phase: u64) -> Settings {
     Settings {
         period,
@@ -32,15 +39,14 @@ fn tells<S: Server>(
     worst: &[(u64, u64)],
     lead: u64,
     pace: &[(u64, u64)],
-) -> Result<(), Fail> {
-    for (n, figure) in worst {
-        assert_eq!(rt; server.worst(*n)?, *figure);
+) {
+    for &(n, figure) in worst {
+        assert_eq!(rt; server.worst(n), Ok(figure));
     }
-    assert_eq!(rt; server.lead()?, lead);
-    for (n, figure) in pace {
-        assert_eq!(rt; server.pace(*n)?, *figure);
+    assert_eq!(rt; server.lead(), Ok(lead));
+    for &(n, figure) in pace {
+        assert_eq!(rt; server.pace(n), Ok(figure));
     }
-    Ok(())
 }
 
 #[test]
@@ -52,7 +58,7 @@ fn worked_figures(rt: HostRuntime) -> Result<(), Fail> {
         &[(0, 0), (1, 7), (4, 10), (5, 17), (12, 30)],
         6,
         &[(5, 13), (6, 15)],
-    )?;
+    );
     let float = Float::new(settings(10, 4, 0), 0)?;
     tells(
         &rt,
@@ -60,163 +66,124 @@ fn worked_figures(rt: HostRuntime) -> Result<(), Fail> {
         &[(0, 0), (1, 13), (4, 16), (5, 23)],
         12,
         &[(5, 13)],
-    )?;
+    );
     let inner = Inner::new(fixed, settings(3, 1, 0), 0)?;
-    tells(&rt, &inner, &[(1, 9), (2, 18)], 11, &[(1, 8)])?;
-    let own = Own::new(settings(1, 1, 0), 0)?;
+    tells(&rt, &inner, &[(1, 9), (2, 18)], 11, &[(1, 8)]);
+    let own = Own::new(Settings::WHOLE, 0)?;
     tells(
         &rt,
         &own,
         &[(0, 0), (1_000_000_000_000, 1_000_000_000_000)],
         0,
         &[(7, 7)],
-    )
-}
-
-fn above_ceiling() -> Fault {
-    Fault {
-        reason: Reason::Ceiling,
-        layer: Layer::Server,
-        line: 0,
-        field: 0,
-    }
+    );
+    Ok(())
 }
 
 #[test]
 fn above_the_ceiling(rt: HostRuntime) -> Result<(), Fail> {
+    let above = Layer::Server.refuses(Reason::Ceiling, 0, 0);
     let long = Fixed::new(settings(65_535, 1, 0), 0)?;
     assert_eq!(rt; long.worst(15_259_021), Ok(999_999_941_235));
-    assert_eq!(rt; long.worst(15_259_022), Err(above_ceiling()));
-    assert_eq!(rt; long.pace(u64::MAX), Err(above_ceiling()));
-    assert_eq!(rt; Own.worst(1_000_000_000_001), Err(above_ceiling()));
+    assert_eq!(rt; long.worst(15_259_022), Err(above));
+    assert_eq!(rt; long.pace(u64::MAX), Err(above));
+    assert_eq!(rt; Own.worst(1_000_000_000_001), Err(above));
     let pile = Inner::new(long, settings(65_535, 1, 0), 0)?;
     assert_eq!(rt; pile.lead(), Ok(4_294_836_224));
     assert_eq!(rt; pile.worst(232), Ok(996_402_004_200));
-    assert_eq!(rt; pile.worst(233), Err(above_ceiling()));
+    assert_eq!(rt; pile.worst(233), Err(above));
     Ok(())
 }
 
-fn refused(line: u32) -> Fault {
-    Fault {
-        reason: Reason::Settings,
-        layer: Layer::Server,
-        line,
-        field: 0,
-    }
+// What refuses settings on a line that are not taken.
+fn refusal(taken: bool, line: LineNumber) -> Option<Fault> {
+    (!taken).then_some(Layer::Server.refuses(Reason::Settings, line, 0))
 }
 
 // Whether each kind takes the settings, as own, fixed and float in turn; a layer takes those that a fixed slice takes.
-fn takes(rt: &impl Abort, s: Settings, own: bool, fixed: bool, float: bool) -> Result<(), Fail> {
+fn takes(rt: &impl Abort, s: Settings, own: bool, fixed: bool, float: bool) {
     for (kind, taken) in [(Kind::Own, own), (Kind::Fixed, fixed), (Kind::Float, float)] {
-        match AnyKind::new(kind, s, 7) {
-            Ok(_) => assert!(rt; taken),
-            Err(e) => assert!(rt; !taken && e == refused(7)),
-        }
+        assert_eq!(rt; AnyKind::new(kind, s, 7).err(), refusal(taken, 7));
     }
-    match Inner::new(Own, s, 9) {
-        Ok(_) => {
-            assert!(rt; fixed);
-            Ok(())
-        },
-        Err(e) => {
-            assert!(rt; !fixed && e == refused(9));
-            Ok(())
-        },
-    }
+    assert_eq!(rt; Inner::new(Own, s, 9).err(), refusal(fixed, 9));
 }
 
 #[test]
-fn settings_refused(rt: HostRuntime) -> Result<(), Fail> {
-    takes(&rt, settings(1, 1, 0), true, true, true)?;
-    takes(&rt, settings(10, 4, 0), false, true, true)?;
-    takes(&rt, settings(10, 4, 9), false, true, false)?;
-    takes(&rt, settings(10, 4, 10), false, false, false)?;
-    takes(&rt, settings(65_535, 65_535, 0), false, true, true)?;
-    takes(&rt, settings(65_536, 1, 0), false, false, false)?;
-    takes(&rt, settings(4, 5, 0), false, false, false)?;
-    takes(&rt, settings(4, 0, 0), false, false, false)?;
-    takes(&rt, settings(0, 0, 0), false, false, false)
+fn settings_refused(rt: HostRuntime) {
+    takes(&rt, Settings::WHOLE, true, true, true);
+    takes(&rt, settings(10, 4, 0), false, true, true);
+    takes(&rt, settings(10, 4, 9), false, true, false);
+    takes(&rt, settings(10, 4, 10), false, false, false);
+    takes(&rt, settings(65_535, 65_535, 0), false, true, true);
+    takes(&rt, settings(65_536, 1, 0), false, false, false);
+    takes(&rt, settings(4, 5, 0), false, false, false);
+    takes(&rt, settings(4, 0, 0), false, false, false);
+    takes(&rt, Settings::NONE, false, false, false);
 }
 
-// The marks are of one tick each: in the claims 'x' is claimed, in the grants '#' is granted.
+// In the marks '#' is granted.
 fn grants<S: Server + Drop>(rt: &impl Abort, mut server: S, claims: &[u8; 20], marks: &[u8; 20]) {
-    for (claim, mark) in claims.iter().zip(marks) {
-        assert_eq!(rt; server.tick(*claim == b'x'), *mark == b'#');
-    }
+    let granted = claims.map(|claim| if server.tick(claim == b'x') {
+        b'#'
+    } else {
+        b'.'
+    });
+    assert_eq!(rt; granted, *marks);
 }
 
 #[test]
 fn grants_over_two_periods(rt: HostRuntime) -> Result<(), Fail> {
-    let quiet = b"....................";
-    let busy = b"xxxxxxxxxxxxxxxxxxxx";
-    let mixed = b"x.xx..x.xxxxxxxx.xxx";
-    grants(&rt, Own, busy, b"####################");
+    grants(&rt, Own, BUSY, b"####################");
     grants(
         &rt,
         Fixed::new(settings(10, 4, 7), 0)?,
-        busy,
+        BUSY,
         b"...####......####...",
     );
     grants(
         &rt,
         Fixed::new(settings(10, 4, 7), 0)?,
-        quiet,
+        QUIET,
         b"...####......####...",
     );
     let float = Float::new(settings(10, 4, 0), 0)?;
-    grants(&rt, float, quiet, b"####......####......");
-    grants(&rt, float, busy, b"......####......####");
-    grants(&rt, float, mixed, b".#..##.#........####");
+    grants(&rt, float, QUIET, b"####......####......");
+    grants(&rt, float, BUSY, b"......####......####");
+    grants(&rt, float, MIXED, b".#..##.#........####");
     Ok(())
 }
 
 #[test]
 fn grants_of_piles(rt: HostRuntime) -> Result<(), Fail> {
-    let busy = b"xxxxxxxxxxxxxxxxxxxx";
-    let mixed = b"x.xx..x.xxxxxxxx.xxx";
     let below = Fixed::new(settings(10, 4, 7), 0)?;
     grants(
         &rt,
         Inner::new(below, settings(3, 1, 0), 0)?,
-        busy,
+        BUSY,
         b"...#..#........#....",
     );
     let float = Float::new(settings(10, 4, 0), 0)?;
     grants(
         &rt,
         Inner::new(float, settings(3, 2, 1), 0)?,
-        mixed,
+        MIXED,
         b".#...#.#.........##.",
     );
     let middle = Inner::new(float, settings(3, 2, 0), 0)?;
     grants(
         &rt,
         Inner::new(middle, settings(2, 1, 0), 0)?,
-        mixed,
+        MIXED,
         b".#.....#..........#.",
     );
     Ok(())
 }
 
-fn no_place() -> Fault {
-    Fault {
-        reason: Reason::Missing,
-        layer: Layer::Runner,
-        line: 0,
-        field: 0,
-    }
-}
-
 #[test]
 fn printed_line(rt: HostRuntime) -> Result<(), Fail> {
-    let fault = Fault {
-        reason: Reason::TokenFreeRing,
-        layer: Layer::Graph,
-        line: 5,
-        field: 0,
-    };
+    let fault = Layer::Graph.refuses(Reason::TokenFreeRing, 5, 0);
     let line = fault.to_string(rt.alloc())?;
-    assert!(rt; line.as_str() == "refused graph 11 5 0");
+    assert_eq!(rt; line.as_str(), "refused graph 11 5 0");
     Ok(())
 }
 
@@ -229,7 +196,7 @@ fn stack(kind: Kind, base: Settings, layer: Settings) -> Result<Stack<AnyKind>, 
 fn rack_by_place(rt: HostRuntime) -> Result<(), Fail> {
     let mut servers = Vec::new(rt.alloc());
     servers.push(stack(Kind::Fixed, settings(10, 4, 3), settings(3, 1, 0))?)?;
-    servers.push(stack(Kind::Float, settings(10, 4, 0), settings(0, 0, 0))?)?;
+    servers.push(stack(Kind::Float, settings(10, 4, 0), Settings::NONE)?)?;
     let mut rack = SideBySide {
         first: One { server: Own },
         second: Row { servers },
@@ -238,8 +205,9 @@ fn rack_by_place(rt: HostRuntime) -> Result<(), Fail> {
     assert_eq!(rt; rack.worst(1, 1), Ok(9));
     assert_eq!(rt; rack.lead(2), Ok(12));
     assert_eq!(rt; rack.pace(0, 5), Ok(5));
-    assert_eq!(rt; rack.tick(3, false), Err(no_place()));
-    assert_eq!(rt; rack.worst(3, 1), Err(no_place()));
+    let no_place = Layer::Runner.refuses(Reason::Missing, 0, 0);
+    assert_eq!(rt; rack.tick(3, false), Err(no_place));
+    assert_eq!(rt; rack.worst(3, 1), Err(no_place));
     assert_eq!(rt; rack.tick(1, false), Ok(true));
     assert_eq!(rt; rack.tick(1, false), Ok(false));
     assert_eq!(rt; rack.tick(2, true), Ok(false));

@@ -85,6 +85,7 @@ fn both(heap: Global) -> Result<(Job, Job), Error> {
 }
 
 fn main(rt: HostRuntime) -> io::Result<()> {
+    // A match: a refusal is printed as its line alone, and is no failure of the program as want of memory is.
     match both(rt.alloc()) {
         Ok((job, blunder)) => tell(&rt, &job, &blunder),
         Err(Error::Refused(fault)) => println!(rt; "{fault}"),

@@ -44,11 +44,9 @@ impl<S: Server> Rack for Row<S> {
     }
 
     fn tick(&mut self, place: usize, claimed: bool) -> Result<bool, Fault> {
-        // A match: behind an `ok_or_else` the proof would not know which server is written back.
-        match self.servers.get_mut(place) {
-            Some(server) => Ok(server.tick(claimed)),
-            None => Err(no_place()),
-        }
+        // `ok_or`: behind an `ok_or_else` the proof would not know which server is written back.
+        let server = self.servers.get_mut(place).ok_or(no_place())?;
+        Ok(server.tick(claimed))
     }
 
     fn worst(&self, place: usize, n: u64) -> Result<u64, Fault> {

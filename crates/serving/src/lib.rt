@@ -21,8 +21,8 @@ fn wait_for_grant<S: Server>(server: &mut S, claimed: bool) -> u64
     missed
 }
 
-// Serves a job that needs as many ticks as there are slots, others claiming every tick or none, and writes into each slot the tick at which it was granted, counted from 1.
-// Refused where the worst wait is above the ceiling, with nothing changed.
+/// Serves a job that needs as many ticks as there are slots, others claiming every tick or none, and writes into each slot the tick at which it was granted, counted from 1.
+/// Refused where the worst wait is above the ceiling, with nothing changed.
 pub fn serve<S: Server>(server: &mut S, claimed: bool, times: &mut [u64]) -> Result<(), Fault>
     ensures served { Serves S.Server.service S.Server.steps server.old claimed times.old result server.new times.new }
     ensures in_time { InTime S.Server.service S.Server.steps }
