@@ -1,16 +1,12 @@
 -- Runs of ticks: put one after another, and that every server grants in time.
-use Rattle.std.proofs.Common.{◌≡◌, ℕ, ◌+◌, ◌-◌, ◌<◌, ◌≤◌, Bool, true, false, cond, List, [], ◌∷◌, ◌++◌, length, refl, subst, ⊎_elim, arith}
+use Rattle.std.proofs.Common.{◌≡◌, ℕ, ◌+◌, ◌-◌, ◌≤◌, Bool, true, false, cond, List, [], ◌∷◌, ◌++◌, length, refl, subst, ⊎_elim, arith}
 use Rattle.std.proofs.lemmas.Bool.{cases_lt}
-use Rattle.servers.specs.Service.{Service, Ticks, Model}
+use Rattle.servers.specs.Service.{Model}
 use Rattle.servers.specs.Runs.{Tick, Run, grants, InTime}
 
 pub run_append : {S : Type 0} (steps : S → Bool → Bool → S → Type 0) (a b c : S) (ts us : List Tick) → Run steps a ts b → Run steps b us c → Run steps a (ts ++ us) c
 run_append steps a b c [] us r q = subst (λ x. Run steps x us c) r q
 run_append steps a b c (t ∷ ts) us r q = (r.0, r.1, run_append steps r.0 b c ts us r.2 q)
-
--- What is left to wait for falls with a tick that is not granted.
-pub passed_less : (s t : Service) (g : Bool) (n : ℕ) → Ticks s g t → g ≡ false → 0 < n → t.wait n + 1 ≤ s.wait n
-passed_less s t g n k e h = let u : Ticks s false t = rw e at k in u.sooner n h
 
 module _ {S : Type 0} (m : Model S) where
   in_time_step : (a b : S) (t : Tick) (us : List Tick) (g : Bool) → t.granted ≡ g → m.steps a t.claimed g b → ((n : ℕ) → (m.service b).wait n ≤ length us → n ≤ grants us) → (n : ℕ) → (m.service a).wait n ≤ length (t ∷ us) → n ≤ cond g 1 0 + grants us

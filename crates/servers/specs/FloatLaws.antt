@@ -10,9 +10,6 @@ use Rattle.servers.specs.Rounding.{up_rises, up_some, up_more, up_least}
 use Rattle.servers.specs.SliceLaws.{worst_rises, worst_none, worst_most, pace_none, pace_least, pace_rises, pace_adds}
 
 module _ (p s t g : ℕ) where
-  float_none : float_wait p s t g 0 ≡ 0
-  float_none = refl
-
   float_soon : (n : ℕ) → 0 < n → n ≤ s - g → float_wait p s t g n ≡ ((p - t) - (s - g)) + n
   float_soon n some h =
       cond-false (n == 0) 0 (cond (nat_lt (s - g) n) ((p - t) + worst_of p s (n - (s - g))) (((p - t) - (s - g)) + n)) (ne_eqb n 0 (λ e. omega arith))
@@ -31,24 +28,21 @@ module _ (p s : ℕ) (some : 0 < s) (fits : s ≤ p) where
   float_worst_rises m n h =
       ⊎_elim
       (λ k. omega (arith, worst_some p s m k, worst_some p s n (omega arith), worst_rises p s some fits m n h))
-      (λ k. let z : m ≡ 0 = omega arith in rw z (omega arith))
+      (λ (k : m ≤ 0). let z : m ≡ 0 = omega arith in rw z (omega arith))
       (cases_lt 0 m)
 
   float_worst_most : (n : ℕ) → float_worst p s n ≤ 2 * (p - s) + pace_of p s n
   float_worst_most n =
       ⊎_elim
       (λ k. omega (arith, worst_some p s n k, worst_most p s some fits n))
-      (λ k. let z : n ≡ 0 = omega arith in rw z (omega arith))
+      (λ (k : n ≤ 0). let z : n ≡ 0 = omega arith in rw z (omega arith))
       (cases_lt 0 n)
-
-  worst_over : (n : ℕ) → n ≤ worst_of p s n
-  worst_over n = omega arith
 
   module _ (t g : ℕ) (going : t < p) (most : g ≤ s) (each : g ≤ t) (room : s + t ≤ p + g) where
     float_least : (n : ℕ) → n ≤ float_wait p s t g n
     float_least n =
         ⊎_elim
-        (λ h. omega (arith, float_late p s t g n h, worst_over (n - (s - g))))
+        (λ h. omega (arith, float_late p s t g n h))
         (λ h. ⊎_elim
         (λ k. omega (arith, float_soon p s t g n k h))
         (λ z. omega arith)
@@ -66,7 +60,7 @@ module _ (p s : ℕ) (some : 0 < s) (fits : s ≤ p) where
         (λ j. omega (arith, float_soon p s t g m some_m i, float_soon p s t g n (omega arith) j))
         (cases_lt (s - g) n))
         (cases_lt (s - g) m))
-        (λ z. let e : m ≡ 0 = omega arith in rw e (omega arith))
+        (λ (z : m ≤ 0). let e : m ≡ 0 = omega arith in rw e (omega arith))
         (cases_lt 0 m)
 
     float_most : (n : ℕ) → float_wait p s t g n ≤ float_worst p s n
@@ -78,9 +72,9 @@ module _ (p s : ℕ) (some : 0 < s) (fits : s ≤ p) where
         (λ h.
         let q = mul-le-mul_left (p - s) (up_rises s some (n - (s - g)) n (omega arith)) in
         omega (arith, float_late p s t g n h))
-        (λ h. omega (arith, float_soon p s t g n k h, worst_over n))
+        (λ h. omega (arith, float_soon p s t g n k h))
         (cases_lt (s - g) n))
-        (λ z. let e : n ≡ 0 = omega arith in rw e (omega arith))
+        (λ (z : n ≤ 0). let e : n ≡ 0 = omega arith in rw e (omega arith))
         (cases_lt 0 n)
 
     pub float_at_laws : Laws (float_at p s t g)
@@ -115,7 +109,7 @@ module _ (p s : ℕ) (some : 0 < s) (fits : s ≤ p) where
       let q : (p - s) * up n s ≡ p - s = ap (λ u. (p - s) * u) (let u : up n s ≡ 1 = omega arith in u) ∙ mul-one (p - s) in
       omega (arith, float_soon p s 0 0 n k h))
       (cases_lt (s - 0) n))
-      (λ z. let e : n ≡ 0 = omega arith in rw e (sym (worst_none p s some fits)))
+      (λ (z : n ≤ 0). let e : n ≡ 0 = omega arith in rw e (sym (worst_none p s some fits)))
       (cases_lt 0 n)
 
   module _ (t g t' g' : ℕ) (going : t < p) (most : g ≤ s) (room : s + t ≤ p + g) where

@@ -11,7 +11,7 @@ use faults::reason::Reason;
 pub const LONGEST_PERIOD: u64 = 65_535;
 
 /// What a planner writes of a server: `slice` ticks of every `period` are the task's, and `phase` ticks of the first period have passed at the start.
-// The line where they stand is no part of them: a task's settings and its layer's stand on one line, and a server built by calls has none.
+/// The line where they stand is no part of them: a task's settings and its layer's stand on one line, and a server built by calls has none.
 #[derive(Clone, Copy, PartialEq, Eq, Debug)]
 pub struct Settings {
     pub period: u64,
@@ -35,7 +35,7 @@ impl Settings {
     };
 }
 
-// The refusal of settings that stand on this line.
+/// The refusal of settings that stand on this line.
 pub(crate) fn refused(line: LineNumber) -> Fault
     ensures { result ≡ fault BadSettings AtServer line 0 }
 {

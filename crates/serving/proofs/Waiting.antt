@@ -4,13 +4,13 @@ use Rattle.std.specs.List.{All}
 use Rattle.std.proofs.Math.ListN.{replicate}
 use Rattle.std.proofs.lemmas.Grind.{common_steps, replicate_next}
 use Rattle.std.proofs.lemmas.List.Elements.{All-append, All-replicate}
-use Rattle.std.proofs.lemmas.List.{get_or_append_left, get_or_push, take_more_set, take_all}
+use Rattle.std.proofs.lemmas.List.{get_or_append_left, get_or_push, take_more_set}
 use Rattle.servers.specs.Figures.{ceiling}
 use Rattle.servers.specs.Service.{Model}
 use Rattle.servers.specs.Runs.{Tick, Run}
 use Rattle.std.proofs.lemmas.Bool.{cases_lt}
 use Rattle.servers.proofs.RunLaws.{run_append}
-use Rattle.serving.specs.Served.{grant_times, latest, Served, tick, Waited}
+use Rattle.serving.specs.Served.{grant_times, latest, tick, Waited}
 
 -- So many ticks that were not granted, and one that was.
 abbrev waiting : Bool → ℕ → List Tick
@@ -109,17 +109,3 @@ module _ {S : Type 0} (m : Model S) where
   -- The slot of that grant.
   pub part_slot : (a b d : S) (c : Bool) (clock i k : ℕ) (slots : List ℕ) → i < length slots → Part a c clock (take i slots) b → Waited m.service m.steps b c k d → Part a c (clock + (k + 1)) (take (i + 1) (set slots i (clock + (k + 1)))) d
   part_slot a b d c clock i k slots h p w = rw (take_more_set slots i (clock + (k + 1)) h) (part_more a b d c clock k (take i slots) p w)
-
-  -- All slots are filled.
-  pub part_whole : (a b : S) (c : Bool) (clock i n : ℕ) (slots : List ℕ) → length slots ≤ i → length slots ≡ n → Part a c clock (take i slots) b → Served m.service m.steps a c n slots b
-  part_whole a b c clock i n slots h e p =
-      let q : Part a c clock slots b = rw (take_all i slots h) at p in
-      record {
-        ticks = q.ticks;
-        went = q.went;
-        all = q.all;
-        when = q.when;
-        whole = e;
-        ends = q.ends ∙ q.last;
-        soon = λ j k. q.soon j (omega arith);
-      }

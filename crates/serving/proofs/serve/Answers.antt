@@ -3,19 +3,13 @@ use Rattle.std.proofs.Common.{◌+◌, ◌≤◌, length, take, arith}
 use Rattle.std.proofs.lemmas.List.{length-take-le}
 use Rattle.servers.specs.Figures.{ceiling}
 use Rattle.servers.proofs.RunLaws.{in_time}
-use Rattle.serving.proofs.Waiting.{part_near, part_slot, part_whole}
+use Rattle.serving.proofs.Waiting.{part_near, part_slot}
 use Rattle.serving.proofs.serve.Invariants.{model}
 use Rattle.serving.proofs.serve.Given as given
 use Rattle.serving.proofs.serve.Goals as goal
 
 pub returns-in_err-worst-clause-in_time : goal.returns-in_err-worst-clause-in_time
 returns-in_err-worst-clause-in_time g c = in_time (model g)
-
-pub wait_for_grant-requires : goal.wait_for_grant-requires
-wait_for_grant-requires g c =
-    let l = c.loop-time in
-    let size = length-take-le l.time-index l.times (omega arith) in
-    omega (arith, part_near (model g) c.args.server.now l.server c.args.claimed l.clock (length c.args.times.now) (take l.time-index l.times) l.invariant (omega arith) c.in_ok-worst.ensures.1)
 
 near : (g : given.Over) (c : goal.After-wait_for_grant g) → c.loop-time.clock + (c.wait_for_grant.result + 1) ≤ ceiling
 near g c =
@@ -33,13 +27,6 @@ pub loop-time-preserved : goal.loop-time-preserved
 loop-time-preserved g c =
     let l = c.loop-time in
     part_slot (model g) c.args.server.now l.server c.wait_for_grant.new.server c.args.claimed l.clock l.time-index c.wait_for_grant.result l.times (omega arith) l.invariant c.wait_for_grant.ensures
-
-pub returns-clause-served : goal.returns-clause-served
-returns-clause-served g c =
-    let l = c.loop-time in (
-      c.in_ok-worst.ensures.1,
-      part_whole (model g) c.args.server.now l.server c.args.claimed l.clock l.time-index (length c.args.times.now) l.times (omega arith) l.auto.times l.invariant,
-    )
 
 pub returns-clause-in_time : goal.returns-clause-in_time
 returns-clause-in_time g c = in_time (model g)
