@@ -35,7 +35,6 @@ impl Fixed {
     }
 
     /// A phase in which every wait is the worst: the slice has just closed. And a wait is exact: the n-th grant comes at it.
-    #[tactic(auto, using(crate::proofs::WorstPhase::worst_after, crate::proofs::WorstPhase::worst_whole))]
     pub fn worst_phase(&self) -> u64
         ensures within { result < self.now.slice.period }
         ensures attains { (n : ℕ) → wait_at self.now.slice.period self.now.slice.ticks result n ≡ worst_of self.now.slice.period self.now.slice.ticks n }
