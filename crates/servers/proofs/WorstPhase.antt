@@ -1,19 +1,12 @@
 -- Where the waits of a fixed slice are the worst.
-use Rattle.std.proofs.Common.{sym, ◌≡◌, ℕ, ◌-◌, ◌*◌, ◌<◌, ◌≤◌, ap, ◌∙◌, ⊎_elim, zero-mul, arith}
-use Rattle.std.proofs.lemmas.Bool.{cases_lt}
-use Rattle.servers.specs.Slices.{up, fresh, wait_at, worst_of}
-use Rattle.servers.specs.SliceLaws.{worst_none, wait_late, wait_whole, fresh_gap}
+use Rattle.std.proofs.Common.{◌≡◌, ℕ, ◌-◌, ◌*◌, ◌<◌, ◌≤◌, ap, ◌∙◌, zero-mul, arith}
+use Rattle.servers.specs.Slices.{up, wait_at, worst_of}
+use Rattle.servers.specs.SliceLaws.{worst_none, wait_whole, fresh_gap}
 
 module _ (p s : ℕ) (some : 0 < s) (fits : s ≤ p) where
   -- at the end of the slice the wait is the worst
   pub worst_after : s < p → (n : ℕ) → wait_at p s s n ≡ worst_of p s n
-  worst_after h n =
-      ⊎_elim
-      (λ k.
-      let i = ap (fresh p s) (let i : n - (s - s) ≡ n = omega arith in i) in
-      omega (arith, wait_late p s s n (omega arith), fresh_gap p s some fits n k))
-      (λ k. let z : n ≡ 0 = omega arith in rw z (sym (worst_none p s some fits)))
-      (cases_lt 0 n)
+  worst_after h n = grind (arith, fresh_gap p s some fits n, worst_none p s some fits)
 
   -- where the slice is the period, so is any
   pub worst_whole : s ≡ p → (n : ℕ) → wait_at p s 0 n ≡ worst_of p s n

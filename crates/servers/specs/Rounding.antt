@@ -1,8 +1,8 @@
 -- Rounding up: what it keeps, and how it is reckoned.
 use Rattle.std.specs.Prelude.{◌≡◌, ℕ, ◌+◌, ◌-◌, ◌*◌, ◌/◌, ◌%◌, ◌<◌, ◌≤◌, min, ◌⊎◌}
-use Rattle.std.proofs.Common.{inl, inr, ⊎_elim, mul_comm, mul-add, add-mul, mul-one, arith}
+use Rattle.std.proofs.Common.{inl, inr, ⊎_elim, ap, ◌∙◌, mul_comm, mul-add, add-mul, mul-one, arith}
 use Rattle.std.proofs.lemmas.Bool.{cases_lt}
-use Rattle.std.proofs.Math.Nat.{mul-div-le, lt-div-mul-add}
+use Rattle.std.proofs.Math.Nat.{add-mul-div_left, mul-div-le, lt-div-mul-add}
 use Rattle.std.proofs.lemmas.Grind.{div_ceil_times}
 use Rattle.std.proofs.lemmas.Nat.{le-div, div_below}
 use Rattle.servers.specs.Slices.{up}
@@ -42,10 +42,7 @@ module _ (s : ℕ) (some : 0 < s) where
 
   -- one more period
   pub up_more : (a : ℕ) → up (a + s) s ≡ up a s + 1
-  up_more a =
-      let lo : up (a + s) s ≤ up a s + 1 = up_least (a + s) (up a s + 1) (omega (arith, up_covers a, mul-add s (up a s) 1, mul-one s)) in
-      let hi : up a s + 1 ≤ up (a + s) s = up_from (a + s) (up a s + 1) (omega (arith, up_near a, mul-add s (up a s) 1, mul-one s)) in
-      omega arith
+  up_more a = ap (λ k. k / s) (let e : a + s + (s - 1) ≡ a + (s - 1) + s * 1 = omega (arith, mul-one s) in e) ∙ add-mul-div_left (a + (s - 1)) 1 some
 
   -- as a quotient, and one more where there is a rest
   pub up_quotient : (a : ℕ) → a / s + min 1 (a % s) ≡ up a s
