@@ -1,7 +1,7 @@
 -- A fixed slice keeps the laws of a service, and a tick brings its grants sooner.
-use Rattle.std.specs.Prelude.{◌≡◌, ℕ, ◌+◌, ◌-◌, ◌*◌, ◌<◌, ◌≤◌, Bool, true, false, cond, ◌⊎◌, nat_lt, refl}
-use Rattle.std.proofs.Common.{sym, ap, ◌∙◌, ⊎_elim, mul_comm, mul-add, add-mul, mul_assoc, mul-le-mul_left, mul-zero, zero-mul, mul-one, arith, ltb-true, ltb-false}
-use Rattle.std.proofs.lemmas.Bool.{cases_lt}
+use Rattle.std.specs.Prelude.{◌≡◌, ℕ, ◌+◌, ◌-◌, ◌*◌, ◌<◌, ◌≤◌, Bool, true, false, cond, ◌⊎◌, ◌==◌, nat_lt, refl}
+use Rattle.std.proofs.Common.{sym, ap, ◌∙◌, inl, inr, ⊎_elim, mul_comm, mul-add, add-mul, mul_assoc, mul-le-mul_left, mul-zero, zero-mul, mul-one, arith, ltb-true, ltb-false, lt-ltb, le-ltb}
+use Rattle.std.proofs.lemmas.Bool.{cases_lt, cond-true, cond-false, ne_eqb}
 use Rattle.servers.specs.Service.{Laws, Sooner, Ticks}
 use Rattle.servers.specs.Slices.{up, fresh, wait_at, worst_of, pace_of}
 use Rattle.servers.specs.FixedService.{slice_service, fixed_service, Moves}
@@ -10,15 +10,33 @@ use Rattle.servers.specs.Rounding.{up_near, up_least, up_from, up_rises, up_adds
 
 module _ (p s at : ℕ) where
   pub wait_soon : (n : ℕ) → n ≤ s - at → wait_at p s at n ≡ n
-  wait_soon n h = grind arith
+  wait_soon n h =
+      ⊎_elim
+      (λ k.
+      cond-false (n == 0) 0 (cond (nat_lt (s - at) n) ((p - at) + fresh p s (n - (s - at))) n) (ne_eqb n 0 (λ e. omega arith))
+      ∙ cond-false (nat_lt (s - at) n) ((p - at) + fresh p s (n - (s - at))) n (le-ltb (s - at) n h))
+      (λ k. let z : n ≡ 0 = omega arith in rw z refl)
+      (cases_lt 0 n)
 
   pub wait_late : (n : ℕ) → s - at < n → wait_at p s at n ≡ (p - at) + fresh p s (n - (s - at))
-  wait_late n h = grind arith
+  wait_late n h =
+      cond-false (n == 0) 0 (cond (nat_lt (s - at) n) ((p - at) + fresh p s (n - (s - at))) n) (ne_eqb n 0 (λ e. omega arith))
+      ∙ cond-true (nat_lt (s - at) n) ((p - at) + fresh p s (n - (s - at))) n (lt-ltb (s - at) n h)
 
 module _ (p s : ℕ) (some : 0 < s) (fits : s ≤ p) where
+  fresh_rises : (m n : ℕ) → m ≤ n → fresh p s m ≤ fresh p s n
+  fresh_rises m n h =
+      let u = up_rises s some m n h in
+      let q = mul-le-mul_left {m = up m s - 1} {n = up n s - 1} (p - s) (omega arith) in
+      omega arith
+
   -- a period's gap, and the waits after it
   pub fresh_gap : (n : ℕ) → 0 < n → (p - s) + fresh p s n ≡ worst_of p s n
-  fresh_gap n h = let u = up_some s some n h in grind (arith, mul-add (p - s) 1 (up n s - 1))
+  fresh_gap n h =
+      let u = up_some s some n h in
+      let e : up n s ≡ 1 + (up n s - 1) = omega arith in
+      let q : (p - s) * up n s ≡ (p - s) * 1 + (p - s) * (up n s - 1) = ap (λ k. (p - s) * k) e ∙ mul-add (p - s) 1 (up n s - 1) in
+      omega (arith, mul-one (p - s))
 
   pub worst_rises : (m n : ℕ) → m ≤ n → worst_of p s m ≤ worst_of p s n
   worst_rises m n h =
@@ -27,19 +45,29 @@ module _ (p s : ℕ) (some : 0 < s) (fits : s ≤ p) where
 
   module _ (at : ℕ) (passed : at < p) where
     pub wait_least : (n : ℕ) → n ≤ wait_at p s at n
-    wait_least n = grind arith
+    wait_least n =
+        ⊎_elim
+        (λ h. rw (wait_late p s at n h) (omega arith))
+        (λ h. rw (wait_soon p s at n h) (omega arith))
+        (cases_lt (s - at) n)
 
     pub wait_rises : (m n : ℕ) → m ≤ n → wait_at p s at m ≤ wait_at p s at n
     wait_rises m n h =
-        let u = up_rises s some (m - (s - at)) (n - (s - at)) (omega arith) in
-        let q = mul-le-mul_left {m = up (m - (s - at)) s - 1} {n = up (n - (s - at)) s - 1} (p - s) (omega arith) in
-        grind arith
+        ⊎_elim
+        (λ k. omega (arith, wait_late p s at m k, wait_late p s at n (omega arith), fresh_rises (m - (s - at)) (n - (s - at)) (omega arith)))
+        (λ k. rw (wait_soon p s at m k) (omega (arith, wait_least n)))
+        (cases_lt (s - at) m)
 
     pub wait_most : (n : ℕ) → wait_at p s at n ≤ worst_of p s n
     wait_most n =
+        ⊎_elim
+        (λ h.
         let w = worst_rises (n - (s - at)) n (omega arith) in
+        let g = fresh_gap (n - (s - at)) (omega arith) in
         let q = mul-le-mul_left (p - s) (up_rises s some (n - (s - at)) n (omega arith)) in
-        grind (arith, fresh_gap (n - (s - at)))
+        omega (arith, wait_late p s at n h))
+        (λ h. omega (arith, wait_soon p s at n h))
+        (cases_lt (s - at) n)
 
   pub worst_none : worst_of p s 0 ≡ 0
   worst_none = omega (arith, ap (λ k. (p - s) * k) (up_none s some), mul-zero (p - s))
@@ -73,7 +101,11 @@ module _ (p s : ℕ) (some : 0 < s) (fits : s ≤ p) where
       up_from s some (n * p) (n + d * k) (omega (arith, mul-add s n (d * k), mul_comm s n, gap_times n, mul_comm n d))
 
   pub worst_most : (n : ℕ) → worst_of p s n ≤ (p - s) + pace_of p s n
-  worst_most n = grind (arith, fresh_gap n, fresh_paced n, worst_none)
+  worst_most n =
+      ⊎_elim
+      (λ h. omega (arith, fresh_gap n h, fresh_paced n))
+      (λ h. omega (arith, worst_none, worst_rises n 0 h))
+      (cases_lt 0 n)
 
   pub slice_laws : (at : ℕ) → at < p → Laws (slice_service p s at)
   slice_laws at passed = record {
@@ -92,13 +124,29 @@ module _ (p s : ℕ) (some : 0 < s) (fits : s ≤ p) where
 
   -- where the slice is the period, there is nothing to wait for
   pub wait_whole : s ≡ p → (at : ℕ) → at < p → (n : ℕ) → wait_at p s at n ≡ n
-  wait_whole e at passed n = grind (arith, zero-mul (up (n - (s - at)) s - 1))
+  wait_whole e at passed n =
+      let d : p - s ≡ 0 = omega arith in
+      let z : (p - s) * up n s ≡ 0 = ap (λ k. k * up n s) d ∙ zero-mul (up n s) in
+      omega (arith, wait_least at passed n, wait_most at passed n)
 
   -- how a position moves on
   module _ (at next : ℕ) (passed : at < p) (moves : ((at + 1 < p) × (next ≡ at + 1)) ⊎ ((p ≤ at + 1) × (next ≡ 0))) where
     -- a granted tick takes just one grant and one tick off the wait
     pub granted_next : at < s → (n : ℕ) → wait_at p s at (n + 1) ≡ wait_at p s next n + 1
-    granted_next within n = grind (arith, wait_whole)
+    granted_next within n =
+        ⊎_elim
+        (λ m.
+        let e = ap (λ k. wait_at p s k n) m.1 in
+        ⊎_elim
+        (λ h.
+        let i : n + 1 - (s - at) ≡ n - (s - (at + 1)) = omega arith in
+        omega (arith, wait_late p s (at + 1) n h, wait_late p s at (n + 1) (omega arith), ap (fresh p s) i))
+        (λ h. omega (arith, wait_soon p s (at + 1) n h, wait_soon p s at (n + 1) (omega arith)))
+        (cases_lt (s - (at + 1)) n))
+        (λ m.
+        let e = ap (λ k. wait_at p s k n) m.1 in
+        omega (arith, wait_whole (omega arith) 0 (omega arith) n, wait_whole (omega arith) at passed (n + 1)))
+        moves
 
     -- another tick takes just one tick off it
     pub passed_next : s ≤ at → (n : ℕ) → 0 < n → wait_at p s at n ≡ wait_at p s next n + 1
@@ -136,7 +184,11 @@ pub fixed_laws : (f : Fixed) → Laws (fixed_service f)
 fixed_laws f = slice_laws f.slice.period f.slice.ticks f.slice.some f.slice.within f.position f.passed
 
 pub moved_on : (at p next : ℕ) → next ≡ cond (nat_lt (at + 1) p) (at + 1) 0 → ((at + 1 < p) × (next ≡ at + 1)) ⊎ ((p ≤ at + 1) × (next ≡ 0))
-moved_on at p next e = grind arith
+moved_on at p next e =
+    ⊎_elim
+    (λ h. inl (h, e ∙ ap (λ t. cond t (at + 1) 0) (lt-ltb (at + 1) p h)))
+    (λ h. inr (h, e ∙ ap (λ t. cond t (at + 1) 0) (le-ltb (at + 1) p h)))
+    (cases_lt (at + 1) p)
 
 pub fixed_moves : (a b : Fixed) (c g : Bool) → Moves a c g b → Ticks (fixed_service a) g (fixed_service b)
 fixed_moves a b c g m =
