@@ -2,7 +2,8 @@ ghost use Rattle.std.specs.Prelude.{◌≡◌};
 
 use faults::fault::Fault;
 
-// An item that found no slot, with the refusal.
+/// An item that found no slot, with the refusal.
+// The fault stands beside the item, though it is always the same, so that a `?` can carry it upward as every refusal is.
 #[derive(Drop)]
 pub struct Returned<T> {
     pub fault: Fault,
