@@ -1,8 +1,10 @@
-ghost use Rattle.belt.specs.Turned.{Sound};
+ghost use Rattle.std.specs.Prelude.{List, Option};
+ghost use Rattle.belt.specs.Turned.{Sound, turned};
 
 use crate::returned::Returned;
 use faults::layer::Layer;
 use faults::reason::Reason;
+use std::marker::Model;
 
 /// A queue over slots that the caller lends: it hands out first what was put in first.
 // The slots are a ring: `len` of them hold items, the oldest at `head`, round to the one before it.
@@ -11,7 +13,15 @@ pub struct Belt<'a, T> {
     slots: &'a mut [Option<T>],
     head: usize,
     len: usize,
-    ghost sound: { Sound slots.now head len },
+}
+
+// A caller sees the slots in their order of age, and not where the ring begins.
+impl<'a, T> Model for Belt<'a, T> {
+    ghost Value = { List (Option T) };
+
+    ghost view = { λ b. turned b.slots.now b.head };
+
+    ghost invariant = { λ b. Sound b.slots.now b.head b.len };
 }
 
 impl<'a, T: Drop> Belt<'a, T> {
