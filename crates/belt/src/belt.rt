@@ -73,9 +73,7 @@ impl<'a, T: Drop> Belt<'a, T> {
             return Err(Returned { fault, item });
         }
         let free = (self.head + self.len) % self.slots.len();
-        // Reborrowed: a write as `self.slots[free]` would owe the invariant at once, before the count follows.
-        let slots = &mut *self.slots;
-        slots[free] = Some(item);
+        self.slots[free] = Some(item);
         self.len += 1;
         Ok(())
     }
@@ -87,8 +85,7 @@ impl<'a, T: Drop> Belt<'a, T> {
         if self.len == 0 {
             return None;
         }
-        let slots = &mut *self.slots;
-        let item = slots[self.head].take();
+        let item = self.slots[self.head].take();
         self.head = (self.head + 1) % self.slots.len();
         self.len -= 1;
         item
