@@ -4,7 +4,7 @@ use faults::fault::Fault;
 
 /// An item that found no slot, with the refusal.
 // The fault stands beside the item, though it is always the same, so that a `?` can carry it upward as every refusal is.
-#[derive(Drop)]
+#[derive(PartialEq, Eq, Debug, Drop)]
 pub struct Returned<T> {
     pub fault: Fault,
     pub item: T,
