@@ -20,8 +20,7 @@ fn passes_through(rt: &impl Abort, slots: &mut [Option<u32>]) {
     for item in oldest {
         assert_eq!(rt; belt.take(), Some(item));
     }
-    assert!(rt; belt.is_empty());
-    assert_eq!(rt; belt.free(), room);
+    assert!(rt; belt.is_empty() && belt.free() == room);
 }
 
 #[test]
@@ -50,9 +49,9 @@ fn full_gives_the_item_back(rt: HostRuntime) {
     let item = at(6);
     assert_eq!(rt; belt.put(item), Err(Returned { fault, item }));
     assert_eq!(rt; belt.len(), 1);
-    assert_eq!(rt; belt.take(), Some(at(5)));
-    assert_eq!(rt; belt.take(), None);
-    assert_eq!(rt; belt.take(), None);
+    for expected in [Some(at(5)), None, None] {
+        assert_eq!(rt; belt.take(), expected);
+    }
 }
 
 // The fault alone rises.
@@ -65,8 +64,7 @@ fn put_one(belt: &mut Belt<'_, u32>) -> Result<(), Fault> {
 fn no_slots(rt: HostRuntime) {
     let mut slots: [Option<u32>; 0] = [];
     let mut belt = Belt::new(&mut slots);
-    assert!(rt; belt.is_empty());
-    assert!(rt; belt.len() == 0 && belt.free() == 0);
+    assert!(rt; belt.is_empty() && belt.len() == 0 && belt.free() == 0);
     assert_eq!(rt; belt.take(), None);
     assert_eq!(rt;
         put_one(&mut belt),
