@@ -16,7 +16,7 @@ wraps n j below = elim (cases_lt j n) [
 ]
 
 module _ {T : Type 0} where
-  length_turned : (s : List (Option T)) (h : ℕ) → h ≤ length s → length (turned s h) ≡ length s
+  pub length_turned : (s : List (Option T)) (h : ℕ) → h ≤ length s → length (turned s h) ≡ length s
   length_turned s h le = length-append (drop h s) (take h s) ∙ omega (arith, length-drop h s, length-take-le h s le)
 
   -- a write to the place k after the head
@@ -84,11 +84,14 @@ module _ {T : Type 0} where
   cleared R clears s p q f = ap held (append-nil s) ∙ none_held R clears s p q f
 
   module _ (s : List (Option T)) (h n : ℕ) (hl : h < length s) (sound : Sound s h n) where
-    long : length (turned s h) ≡ length s
+    pub long : length (turned s h) ≡ length s
     long = length_turned s h (omega arith)
 
     pub put_held : (x : T) → n < length s → held (turned (set s ((h + n) % length s) (Some x)) h) ≡ held (turned s h) ++ x ∷ []
     put_held x room = ap held (turned_set s h n (Some x) hl room) ∙ held_put (turned s h) n x (omega (arith, long)) sound.2 sound.3
+
+    pub put_room : (x : T) → n < length s → length (turned (set s ((h + n) % length s) (Some x)) h) ≡ length (turned s h)
+    put_room x room = ap length (turned_set s h n (Some x) hl room) ∙ length-set (turned s h) n (Some x)
 
     pub put_sound : (x : T) → n < length s → Sound (set s ((h + n) % length s) (Some x)) h (n + 1)
     put_sound x room =
@@ -110,6 +113,7 @@ module _ {T : Type 0} where
         pub item : T
         pub was : get_or s h None ≡ Some item
         pub front : held (turned s h) ≡ item ∷ held (turned emptied ((h + 1) % length emptied))
+        pub wide : length (turned emptied ((h + 1) % length emptied)) ≡ length (turned s h)
         pub rest : Sound emptied ((h + 1) % length emptied) (n - 1)
 
       pub take_step : 0 < n → Taken
@@ -127,6 +131,7 @@ module _ {T : Type 0} where
             item = first.0;
             was = first.1;
             front = all ∙ ap (λ l. first.0 ∷ l) (sym (ap held after ∙ inside));
+            wide = ap length after ∙ length-append q (o ∷ []) ∙ omega (arith, ap length (turned_front s h hl));
             rest = (
               omega (arith, mod-lt (h + 1) {m = length emptied} (omega arith)),
               omega arith,

@@ -1,25 +1,35 @@
-ghost use Rattle.belt.specs.Turned.{Sound};
+ghost use Rattle.std.specs.Prelude.{List, Option};
+ghost use Rattle.belt.specs.Turned.{Sound, turned};
 
 use crate::returned::Returned;
 use faults::layer::Layer;
 use faults::reason::Reason;
+use std::marker::Model;
 
-// A queue over slots that the caller lends: it hands out first what was put in first.
+/// A queue over slots that the caller lends: it hands out first what was put in first.
 // The slots are a ring: `len` of them hold items, the oldest at `head`, round to the one before it.
 #[derive(Drop)]
 pub struct Belt<'a, T> {
     slots: &'a mut [Option<T>],
     head: usize,
     len: usize,
-    ghost sound: { Sound slots.now head len },
+}
+
+// A caller sees the slots in their order of age, and not where the ring begins.
+impl<'a, T> Model for Belt<'a, T> {
+    ghost Value = { List (Option T) };
+
+    ghost view = { λ b. turned b.slots.now b.head };
+
+    ghost invariant = { λ b. Sound b.slots.now b.head b.len };
 }
 
 impl<'a, T: Drop> Belt<'a, T> {
-    ghost use Rattle.std.specs.Prelude.{◌≡◌, ◌+◌, [], length};
+    ghost use Rattle.std.specs.Prelude.{◌≡◌, ◌+◌, ◌↔◌, [], length, IsTrue};
     ghost use Rattle.belt.specs.Belts.{contents, room, Put, Took};
     ghost use Rattle.belt.specs.Histories.{InOrder};
 
-    // An empty belt, whatever the slots hold. From then on, what is handed out is in order a front of what was accepted, and the rest is inside.
+    /// An empty belt, whatever the slots hold. From then on, what is handed out is in order a front of what was accepted, and the rest is inside.
     pub fn new(slots: &'a mut [Option<T>]) -> Belt<'a, T>
         ensures empty { contents result ≡ [] }
         ensures room { room result ≡ length slots.old }
@@ -33,21 +43,28 @@ impl<'a, T: Drop> Belt<'a, T> {
         }
     }
 
-    // How many items are inside.
+    /// How many items are inside.
     pub fn len(&self) -> usize
         ensures { result ≡ length (contents self.now) }
     {
         self.len
     }
 
-    // How many slots are free.
+    /// Whether no item is inside.
+    pub fn is_empty(&self) -> bool
+        ensures { IsTrue result ↔ (contents self.now ≡ []) }
+    {
+        self.len == 0
+    }
+
+    /// How many slots are free.
     pub fn free(&self) -> usize
         ensures { result + length (contents self.now) ≡ room self.now }
     {
         self.slots.len() - self.len
     }
 
-    // One item more; refused where every slot is taken, and then the caller has the item back.
+    /// One item more; refused where every slot is taken, and then the caller has the item back.
     pub fn put(&mut self, item: T) -> Result<(), Returned<T>>
         ensures { Put self.old item result self.new }
     {
@@ -56,22 +73,19 @@ impl<'a, T: Drop> Belt<'a, T> {
             return Err(Returned { fault, item });
         }
         let free = (self.head + self.len) % self.slots.len();
-        // Reborrowed: a write as `self.slots[free]` would owe the invariant at once, before the count follows.
-        let slots = &mut *self.slots;
-        slots[free] = Some(item);
+        self.slots[free] = Some(item);
         self.len += 1;
         Ok(())
     }
 
-    // The oldest item, or none from an empty belt.
+    /// The oldest item, or none from an empty belt.
     pub fn take(&mut self) -> Option<T>
         ensures { Took self.old result self.new }
     {
         if self.len == 0 {
             return None;
         }
-        let slots = &mut *self.slots;
-        let item = slots[self.head].take();
+        let item = self.slots[self.head].take();
         self.head = (self.head + 1) % self.slots.len();
         self.len -= 1;
         item

@@ -9,21 +9,18 @@ use std::process::Abort;
 fn passes_through(rt: &impl Abort, slots: &mut [Option<u32>]) {
     let room = slots.len();
     let mut belt = Belt::new(slots);
-    let mut next = 1;
+    let mut oldest = 1..10u32;
     for item in 1..10u32 {
         if belt.free() == 0 {
-            assert_eq!(rt; belt.take(), Some(next));
-            next = next.saturating_add(1);
+            assert_eq!(rt; belt.take(), oldest.next());
         }
         assert!(rt; belt.put(item).is_ok());
     }
     assert_eq!(rt; belt.len(), room);
-    for _ in 0..room {
-        assert_eq!(rt; belt.take(), Some(next));
-        next = next.saturating_add(1);
+    for item in oldest {
+        assert_eq!(rt; belt.take(), Some(item));
     }
-    assert_eq!(rt; next, 10);
-    assert_eq!(rt; belt.free(), room);
+    assert!(rt; belt.is_empty() && belt.free() == room);
 }
 
 #[test]
@@ -47,20 +44,14 @@ fn at(clock: u64) -> Sample {
 fn full_gives_the_item_back(rt: HostRuntime) {
     let mut slots = [None; 1];
     let mut belt = Belt::new(&mut slots);
-    assert!(rt; belt.put(at(5)).is_ok());
-    match belt.put(at(6)) {
-        Ok(()) => assert!(rt; false),
-        Err(back) => {
-            assert_eq!(rt; back.item, at(6));
-            assert_eq!(rt; back.fault.reason, Reason::SlotsTaken);
-            assert_eq!(rt; back.fault.layer, Layer::Belt);
-            assert!(rt; back.fault.line == 0 && back.fault.field == 0);
-        }
-    }
+    assert_eq!(rt; belt.put(at(5)), Ok(()));
+    let fault = Layer::Belt.refuses(Reason::SlotsTaken, 0, 0);
+    let item = at(6);
+    assert_eq!(rt; belt.put(item), Err(Returned { fault, item }));
     assert_eq!(rt; belt.len(), 1);
-    assert_eq!(rt; belt.take(), Some(at(5)));
-    assert_eq!(rt; belt.take(), None);
-    assert_eq!(rt; belt.take(), None);
+    for expected in [Some(at(5)), None, None] {
+        assert_eq!(rt; belt.take(), expected);
+    }
 }
 
 // The fault alone rises.
@@ -73,7 +64,10 @@ fn put_one(belt: &mut Belt<'_, u32>) -> Result<(), Fault> {
 fn no_slots(rt: HostRuntime) {
     let mut slots: [Option<u32>; 0] = [];
     let mut belt = Belt::new(&mut slots);
-    assert!(rt; belt.len() == 0 && belt.free() == 0);
+    assert!(rt; belt.is_empty() && belt.len() == 0 && belt.free() == 0);
     assert_eq!(rt; belt.take(), None);
-    assert!(rt; put_one(&mut belt).is_err());
+    assert_eq!(rt;
+        put_one(&mut belt),
+        Err(Layer::Belt.refuses(Reason::SlotsTaken, 0, 0))
+    );
 }

@@ -19,75 +19,76 @@ fn parts(
 ) -> Result<(Vec<Task>, Vec<Edge>), AllocError> {
     let task = Task { time, inlet: false };
     let all = vec![in heap; task; tasks]?;
-    let mut list = Vec::new(heap);
-    for (from, to, tokens) in edges {
-        list.push(Edge {
-            from: *from,
-            to: *to,
-            tokens: *tokens,
-        })?;
-    }
+    let list = edges
+        .iter()
+        .copied()
+        .map(|(from, to, tokens)| Edge { from, to, tokens })
+        .collect(heap)?;
     Ok((all, list))
 }
 
-// The number and line of the refusal, 0 where the graph of a sheet is accepted.
+// By what the graph of a sheet is refused, none where it is accepted.
 fn refusal(
     heap: Global,
     goal: u64,
     tasks: usize,
     time: u64,
     edges: &[(usize, usize, u64)],
-) -> Result<(u8, u32), AllocError> {
+) -> Result<Option<Fault>, AllocError> {
     let (tasks, edges) = parts(heap, tasks, time, edges)?;
-    match Graph::new(goal, tasks, edges, Origin::Sheet) {
-        Ok(_) => Ok((0, 0)),
-        Err(fault) => Ok((fault.reason.number(), fault.line)),
-    }
+    Ok(Graph::new(goal, tasks, edges, Origin::Sheet).err())
+}
+
+// What a graph is refused by.
+fn by(reason: Reason, line: u32) -> Option<Fault> {
+    Some(Layer::Graph.refuses(reason, line, 0))
 }
 
 #[test]
 fn counts_ranges_ends(rt: HostRuntime) -> Result<(), Fail> {
-    let heap = rt.alloc();
-    assert_eq!(rt; refusal(heap, 32, 0, 6, &[])?, (9, 0));
-    assert_eq!(rt; refusal(heap, 32, 16, 6, &[])?, (0, 0));
-    assert_eq!(rt; refusal(heap, 32, 17, 6, &[])?, (9, 0));
-    assert_eq!(rt; refusal(heap, 32, 2, 6, &[(0, 1, 1); 48])?, (0, 0));
-    assert_eq!(rt; refusal(heap, 32, 2, 6, &[(0, 1, 1); 49])?, (9, 0));
-    assert_eq!(rt; refusal(heap, 0, 2, 6, &[])?, (5, 0));
-    assert_eq!(rt; refusal(heap, 1_000_000_000, 2, 6, &[])?, (5, 0));
-    assert_eq!(rt; refusal(heap, 32, 2, 65_536, &[])?, (5, 0));
-    assert_eq!(rt; refusal(heap, 32, 2, 0, &[])?, (5, 0));
-    assert_eq!(rt; refusal(heap, 32, 2, 6, &[(0, 1, 256)])?, (5, 0));
-    assert_eq!(rt; refusal(heap, 32, 2, 6, &[(0, 2, 1)])?, (8, 0));
+    let most: &[(usize, usize, u64)] = &[(0, 1, 1); 48];
+    let over: &[(usize, usize, u64)] = &[(0, 1, 1); 49];
+    for (goal, tasks, time, edges, expected) in [
+        (32, 0, 6, &[][..], by(Reason::Count, 0)),
+        (32, 16, 6, &[][..], None),
+        (32, 17, 6, &[][..], by(Reason::Count, 0)),
+        (32, 2, 6, most, None),
+        (32, 2, 6, over, by(Reason::Count, 0)),
+        (0, 2, 6, &[][..], by(Reason::NumberRange, 0)),
+        (1_000_000_000, 2, 6, &[][..], by(Reason::NumberRange, 0)),
+        (32, 2, 65_536, &[][..], by(Reason::NumberRange, 0)),
+        (32, 2, 0, &[][..], by(Reason::NumberRange, 0)),
+        (32, 2, 6, &[(0, 1, 256)][..], by(Reason::NumberRange, 0)),
+        (32, 2, 6, &[(0, 2, 1)][..], by(Reason::UnknownTask, 0)),
+    ] {
+        assert_eq!(rt;
+            refusal(rt.alloc(), goal, tasks, time, edges)?,
+            expected,
+            "{tasks} tasks of {time}, goal {goal}"
+        );
+    }
     Ok(())
 }
 
 #[test]
 fn topmost_on_a_ring(rt: HostRuntime) -> Result<(), Fail> {
-    let heap = rt.alloc();
-    assert_eq!(rt; refusal(heap, 32, 2, 6, &[(0, 1, 0), (1, 0, 1)])?, (0, 0));
-    assert_eq!(rt; refusal(heap, 32, 2, 6, &[(0, 1, 0), (1, 0, 0)])?, (11, 5));
-    assert_eq!(rt;
-        refusal(
-            heap,
-            32,
+    for (tasks, edges, expected) in [
+        (2, &[(0, 1, 0), (1, 0, 1)][..], None),
+        (2, &[(0, 1, 0), (1, 0, 0)][..], by(Reason::TokenFreeRing, 5)),
+        (
             4,
-            6,
-            &[(0, 1, 0), (1, 3, 0), (3, 2, 0), (2, 1, 0)],
-        )?,
-        (11, 6)
-    );
-    assert_eq!(rt; refusal(heap, 32, 3, 6, &[(0, 1, 0), (2, 2, 0)])?, (11, 7));
-    assert_eq!(rt;
-        refusal(
-            heap,
-            32,
-            4,
-            6,
-            &[(3, 2, 0), (2, 1, 0), (1, 0, 0), (3, 0, 0)],
-        )?,
-        (0, 0)
-    );
+            &[(0, 1, 0), (1, 3, 0), (3, 2, 0), (2, 1, 0)][..],
+            by(Reason::TokenFreeRing, 6),
+        ),
+        (3, &[(0, 1, 0), (2, 2, 0)][..], by(Reason::TokenFreeRing, 7)),
+        (4, &[(3, 2, 0), (2, 1, 0), (1, 0, 0), (3, 0, 0)][..], None),
+    ] {
+        assert_eq!(rt;
+            refusal(rt.alloc(), 32, tasks, 6, edges)?,
+            expected,
+            "{tasks} tasks"
+        );
+    }
     Ok(())
 }
 
@@ -103,15 +104,10 @@ fn against_a_rack(rt: HostRuntime) -> Result<(), Fail> {
     };
     let (tasks, edges) = parts(rt.alloc(), 1, 65_535, &[])?;
     let alone = Graph::new(32, tasks, edges, Origin::Built)?;
-    assert!(rt; alone.check_rack(&one).is_ok());
+    assert_eq!(rt; alone.check_rack(&one), Ok(()));
     let (tasks, edges) = parts(rt.alloc(), 2, 6, &[])?;
     let two = Graph::new(32, tasks, edges, Origin::Built)?;
-    let misfit = Fault {
-        reason: Reason::Missing,
-        layer: Layer::Runner,
-        line: 0,
-        field: 0,
-    };
+    let misfit = Layer::Runner.refuses(Reason::Missing, 0, 0);
     assert_eq!(rt; two.check_rack(&one), Err(misfit));
     Ok(())
 }

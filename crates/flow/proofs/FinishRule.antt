@@ -7,9 +7,9 @@ use Rattle.flow.proofs.Bounds.{finish_rises, finish_dearer}
 
 pub graphs_sound : GraphsSound
 graphs_sound g = record {
-  time_pos = g.timed;
-  from_task = g.starting;
-  to_task = g.ending;
+  time_pos = λ v h. (g.ranges.times v (omega (arith, g.tasks.ok.0))).0;
+  from_task = λ e h. g.ends.from e (omega (arith, g.edges.ok.0));
+  to_task = λ e h. g.ends.to e (omega (arith, g.edges.ok.0));
   rank = λ v. get_or g.order.place v 0;
   forward = g.forward;
 }

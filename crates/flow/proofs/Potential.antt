@@ -33,8 +33,8 @@ module _ (n : Net) (service : ℕ → Service) (cycle parts : ℕ) (start : ℕ 
   along (on {hops} {v} (edge e) h c) = over_edge e h hops v (along c)
   along (on {hops} {v} (link u) h c) = over_link u h hops v (along c)
 
-  pub bounds : NoneAbove n service cycle parts
+  bounds : NoneAbove n service cycle parts
   bounds hops r = omega (arith, along r.closed)
 
 pub potential : Potential
-potential n service cycle parts start enough links = bounds n service cycle parts start enough links
+potential = bounds

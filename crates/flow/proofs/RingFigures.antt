@@ -1,8 +1,7 @@
 -- Start figures, cycle and parts are the only ones, and one task alone has them.
 use Prim.Native.Nat.{◌∣◌}
 use Rattle.std.proofs.Common.{◌≡◌, ℕ, ◌+◌, ◌*◌, ◌<◌, ◌≤◌, ◌⊎◌, List, [], ◌∷◌, map, length, get_or, sym, ap, ◌∙◌, subst, inl, inr, mul_assoc, mul_comm, mul-le-mul_left, mul_right_comm, le_of_mul-le-mul_right, arith}
-use Rattle.std.proofs.Math.Nat.{dvd-mul_right, one-dvd}
-use Rattle.std.proofs.lemmas.Nat.Gcd.{dvd_antisymm}
+use Rattle.std.proofs.Math.Nat.{dvd-mul_right, eq-one_of_dvd-one}
 use Rattle.servers.specs.Service.{Service}
 use Rattle.flow.specs.Nets.{Net, Sound}
 use Rattle.flow.specs.Rings.{Hop, edge, link, into, pace_of, lead_and_pace_of, weight, tokens_on, Chain, end, on, Ring, Cycle, Starts}
@@ -62,7 +61,7 @@ module _ (n : Net) (one : n.tasks ≡ 1) (none : n.edges ≡ 0) where
   shape (on (link w) h (on (link z) k c)) once = absurd (once 0 1 (omega arith) (omega arith) (let q : w ≡ z = omega arith in q))
 
 pub lowest_one : (d k : ℕ) → 1 ≡ d * k → d ≡ 1
-lowest_one d k e = dvd_antisymm (subst (λ (m : ℕ). d ∣ m) (sym e) (dvd-mul_right d k)) (one-dvd d)
+lowest_one d k e = eq-one_of_dvd-one (subst (λ (m : ℕ). d ∣ m) (sym e) (dvd-mul_right d k))
 
 own_start : (n : Net) (service : ℕ → Service) (cycle : ℕ) → n.edges ≡ 0 → Starts n service cycle 1 (lead_and_pace_of n service)
 own_start n service cycle none = record {

@@ -1,8 +1,9 @@
-ghost use Rattle.std.specs.Prelude.{◌≡◌, ℕ, ◌<◌, ◌≤◌, vec_len, slice_index};
-ghost use Rattle.graph.specs.Edges.{edge_at};
-ghost use Rattle.graph.specs.Legal.{task_at};
+ghost use Rattle.std.specs.Prelude.{◌≡◌, ℕ, ◌<◌, vec_len, slice_index};
+ghost use Rattle.graph.specs.Edges.{Ends, edge_at};
+ghost use Rattle.graph.specs.Legal.{Counts, Ranges};
 
 use crate::edges::Edges;
+use crate::figures::figures_at;
 use crate::legal::{legal_counts, legal_ranges};
 use crate::order::Order;
 use crate::origin::Origin;
@@ -10,8 +11,9 @@ use crate::parts::{Edge, Task};
 use faults::fault::Fault;
 use faults::layer::Layer;
 use faults::reason::Reason;
+use racks::rack::{Rack, no_place};
 
-// A graph that was accepted. `goal` is the paper's ticks per firing. In `order` each token-free edge goes forward.
+/// A graph that was accepted. `goal` is the paper's ticks per firing. In `order` each token-free edge goes forward.
 #[derive(Drop)]
 pub struct Graph {
     pub goal: u64,
@@ -19,24 +21,18 @@ pub struct Graph {
     pub edges: Vec<Edge>,
     pub origin: Origin,
     pub order: Order,
-    ghost some: { 0 < vec_len tasks },
-    ghost few: { vec_len tasks ≤ 16 },
-    ghost sparse: { vec_len edges ≤ 48 },
-    ghost aimed: { 1 ≤ goal },
-    ghost near: { goal ≤ 999999999 },
-    ghost timed: { (v : ℕ) → v < vec_len tasks → 1 ≤ (task_at tasks.items v).time },
-    ghost brief: { (v : ℕ) → v < vec_len tasks → (task_at tasks.items v).time ≤ 65535 },
-    ghost light: { (e : ℕ) → e < vec_len edges → (edge_at edges.items e).tokens ≤ 255 },
-    ghost starting: { (e : ℕ) → e < vec_len edges → (edge_at edges.items e).from < vec_len tasks },
-    ghost ending: { (e : ℕ) → e < vec_len edges → (edge_at edges.items e).to < vec_len tasks },
+    ghost counts: { Counts tasks.items edges.items },
+    ghost ranges: { Ranges goal tasks.items edges.items },
+    ghost ends: { Ends edges.items (vec_len tasks) },
     ghost ordered: { order.tasks ≡ vec_len tasks },
     ghost forward: { (e : ℕ) → e < vec_len edges → (edge_at edges.items e).tokens ≡ 0 → slice_index order.place (edge_at edges.items e).from < slice_index order.place (edge_at edges.items e).to },
 }
 
 impl Graph {
     ghost use Rattle.graph.specs.Graphs.{Builds};
+    ghost use Rattle.graph.specs.Racked.{ChecksRack};
 
-    // Checks the counts, the ranges, the ends of the edges and that no ring of edges is without tokens, in this order.
+    /// Checks the counts, the ranges, the ends of the edges and that no ring of edges is without tokens, in this order.
     pub fn new(
         goal: u64,
         tasks: Vec<Task>,
@@ -51,9 +47,8 @@ impl Graph {
         if !legal_ranges(goal, &tasks, &edges) {
             return Err(Layer::Graph.refuses(Reason::NumberRange, 0, 0));
         }
-        let Some(ends) = Edges::new(&edges, tasks.len()) else {
-            return Err(Layer::Graph.refuses(Reason::UnknownTask, 0, 0));
-        };
+        let unknown = Layer::Graph.refuses(Reason::UnknownTask, 0, 0);
+        let ends = Edges::new(&edges, tasks.len()).ok_or(unknown)?;
         if let Some(task) = ends.first_on_ring() {
             return Err(Layer::Graph.refuses(Reason::TokenFreeRing, origin.line(task), 0));
         }
@@ -65,5 +60,19 @@ impl Graph {
             origin,
             order,
         })
+    }
+
+    /// Checks that the rack has just one place for each task, and then that every figure of each task's server is told.
+    pub fn check_rack<R: Rack>(&self, rack: &R) -> Result<(), Fault>
+        ensures { ChecksRack self.now (R.Rack.places rack.now) (R.Rack.service rack.now) result }
+    {
+        if rack.places() != self.tasks.len() {
+            return Err(no_place());
+        }
+        for (v, task) in self.tasks.iter().enumerate() {
+            let above = Layer::Graph.refuses(Reason::Ceiling, self.origin.line(v), 0);
+            figures_at(rack, v, task.time).map_err(|_| above)?;
+        }
+        Ok(())
     }
 }

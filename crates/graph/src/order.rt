@@ -1,10 +1,10 @@
 ghost use Rattle.std.specs.Prelude.{◌≡◌, ℕ, ◌<◌, ◌≤◌, slice_index};
 
 use crate::parts::MOST_TASKS;
-use std::array;
 
-// So many tasks in an order, and the place of each in it; in fixed memory, since making a graph may not fail for want of it.
-#[derive(Clone, Copy)]
+/// So many tasks in an order, and the place of each in it.
+// In fixed memory, since making a graph may not fail for want of it.
+#[derive(Clone, Copy, PartialEq, Eq, Debug)]
 pub struct Order {
     pub tasks: usize,
     pub list: [usize; MOST_TASKS],
@@ -19,20 +19,7 @@ pub struct Order {
 impl Order {
     ghost use Rattle.graph.specs.Ordered.{Swapped};
 
-    // The tasks by their numbers.
-    pub(crate) fn by_number(tasks: usize) -> Order
-        requires { tasks ≤ 16 }
-        ensures { result.tasks ≡ tasks }
-    {
-        let numbers = array::from_fn(|task| task);
-        Order {
-            tasks,
-            list: numbers,
-            place: numbers,
-        }
-    }
-
-    // Places p and q change their tasks.
+    /// Places p and q change their tasks.
     pub(crate) fn swap(&mut self, p: usize, q: usize)
         requires p_in { p < self.old.tasks }
         requires q_in { q < self.old.tasks }

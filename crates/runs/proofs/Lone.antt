@@ -1,5 +1,5 @@
 -- One task on a fixed slice is served no sooner than its bound says, at the phase that is worst for it.
-use Rattle.std.proofs.Common.{◌≡◌, ℕ, zero, suc, ◌+◌, ◌-◌, ◌*◌, ◌<◌, ◌≤◌, min, Bool, true, false, cond, ◌&&◌, eqb, ltb, ◌⊎◌, [], ◌∷◌, sym, refl, ap, ◌∙◌, inl, inr, mul-le-mul_right, zero-mul, add-one, arith, ltb-false, ltb-true}
+use Rattle.std.proofs.Common.{◌≡◌, ℕ, zero, suc, ◌+◌, ◌-◌, ◌*◌, ◌<◌, ◌≤◌, min, Bool, true, false, cond, ◌&&◌, eqb, ltb, ◌⊎◌, sym, refl, ap, ◌∙◌, inl, inr, mul-le-mul_right, zero-mul, add-one, arith, ltb-false, ltb-true}
 use mathlib.Core.List.Memᴰ
 use mathlib.Core.List.{Memᴰ}
 use Rattle.std.proofs.lemmas.Bool.Decides.{nat_tests}
@@ -11,6 +11,7 @@ use Rattle.servers.specs.Rounding.{le_or_lt}
 use Rattle.runs.proofs.Moves.{supplied_decides, Move, rests, goes, begins, lacks, move, begun}
 use Rattle.runs.proofs.Window.{rest, rest_cases}
 use Rattle.runs.proofs.Base.{Base, base_start, base_needs, base_arrived, base_ticked}
+use Rattle.runs.proofs.Order.{put_of}
 use Rattle.runs.specs.Claims.{Ended}
 use Rattle.flow.specs.Lone.{lone}
 
@@ -54,16 +55,6 @@ phase p zero at h = (at, h, refl)
 phase p (suc c) at h =
     let r = phase p c (prev p at) (prev_below p at h) in
     (r.0, r.1, ap (next p) r.2 ∙ next_prev p at h)
-
--- a task that ends a firing at this tick
-out_one : (T i c : ℕ) (σ : State) (gr : ℕ → Bool) → Memᴰ {A = Finished} (record { task = 0; firing = i; clock = c }) (put_out (lone T) σ gr 1) →
-    (ends (lone T) σ gr 0 ≡ true) × (σ.fired 0 ≡ i) × (c ≡ σ.clock + 1)
-unfolding put_out
-out_one T i c σ gr m = go (ends (lone T) σ gr 0) m
-  where
-    go : (b : Bool) → Memᴰ {A = Finished} (record { task = 0; firing = i; clock = c }) (cond b (record { task = 0; firing = σ.fired 0; clock = σ.clock + 1 } ∷ []) []) → (b ≡ true) × (σ.fired 0 ≡ i) × (c ≡ σ.clock + 1)
-    go true m = let e = Memᴰ.eq_of_singleton m in (refl, sym (ap (λ (r : Finished). r.firing) e), ap (λ (r : Finished). r.clock) e)
-    go false m = absurd (Memᴰ.not-nil m)
 
 module _ (p s : ℕ) (some : 0 < s) (fits : s ≤ p) (T : ℕ) (pos : 1 ≤ T) (φ : ℕ) (below : φ < p) where
   -- the exact wait at a clock
@@ -254,7 +245,7 @@ module _ (p s : ℕ) (some : 0 < s) (fits : s ≤ p) (T : ℕ) (pos : 1 ≤ T) (
 
             go : Ended σ 0 i c ⊎ Memᴰ {A = Finished} (record { task = 0; firing = i; clock = c }) (put_out (lone T) σ gr 1) → t ≤ c
             go (inl old) = l.late known c old
-            go (inr new) = now (out_one T i c σ gr new) (le_or_lt a σ.clock)
+            go (inr new) = let o = put_of (lone T) σ gr 1 0 i c new in now (o.1, sym o.2, o.3) (le_or_lt a σ.clock)
 
         pub low_ticked : Low (ticked (lone T) gr σ)
         low_ticked = record { base = base'; need = l.need; began = began'; low = low'; late = late' }

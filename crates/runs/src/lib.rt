@@ -10,10 +10,10 @@ use racks::side_by_side::SideBySide;
 use servers::fixed::Fixed;
 use servers::own::Own;
 
-// The promise, of every rack. `timely`: a firing is finished at its finish bound at the latest.
-// `paced`: where arrivals keep to the cycle, firing i is finished by its start figure and i cycles.
-// `exact`: one task alone on a fixed slice ends exactly at its bound in some phase.
-// `steady`: the figures that these speak of are the same before a run and after it.
+/// The promise, of every rack. `timely`: a firing is finished at its finish bound at the latest.
+/// `paced`: where arrivals keep to the cycle, firing i is finished by its start figure and i cycles.
+/// `exact`: one task alone on a fixed slice ends exactly at its bound in some phase.
+/// `steady`: the figures that these speak of are the same before a run and after it.
 pub fn promise<R: Rack>()
     ensures timely { OnTime R.Rack.places R.Rack.service R.Rack.steps }
     ensures paced { Paced R.Rack.places R.Rack.service R.Rack.steps }
@@ -21,12 +21,13 @@ pub fn promise<R: Rack>()
     ensures steady { Steady R.Rack.places R.Rack.service R.Rack.steps }
 {}
 
-// So no bound below that of `exact` is true in all phases.
+/// So no bound below that of `exact` is true in all phases.
 pub fn no_smaller()
     ensures { NoSmaller }
 {}
 
-// The promise of the rack of one fixed slice: its ticks are those that `exact` speaks of.
+/// The promise of the rack of one fixed slice: its ticks are those that `exact` speaks of.
+// Beside `sample_promise`: what both say of any rack is `promise`, and each says it in the words of its own.
 pub fn slice_promise()
     ensures timely { OnTime (λ _. 1) slice_at slice_steps }
     ensures paced { Paced (λ _. 1) slice_at slice_steps }
@@ -35,19 +36,19 @@ pub fn slice_promise()
     promise::<One<Fixed>>();
 }
 
-// The records of every run, on every rack. `in_order`: they tell the firings of each task in order, and their clocks never fall.
-// `not_early`: no firing ends before the tokens and the arrival that it takes were there.
+/// The records of every run, on every rack. `in_order`: they tell the firings of each task in order, and their clocks never fall.
+/// `not_early`: no firing ends before the tokens and the arrival that it takes were there.
 pub fn records<R: Rack>()
     ensures in_order { Records R.Rack.places R.Rack.steps }
     ensures not_early { NotEarly R.Rack.places R.Rack.steps }
 {}
 
-// There are such runs: the sample's, tick by tick, in which both first firings end exactly at their finish bounds. Its cycle and start figures are there too.
+/// There are such runs: the sample's, tick by tick, in which both first firings end exactly at their finish bounds. Its cycle and start figures are there too.
 pub fn sample_run()
     ensures { Sample }
 {}
 
-// The promise of the sample's rack: its ticks are those of `sample_run`.
+/// The promise of the sample's rack: its ticks are those of `sample_run`.
 pub fn sample_promise()
     ensures timely { OnTime sample_places sample_service sample_steps }
     ensures paced { Paced sample_places sample_service sample_steps }

@@ -6,6 +6,6 @@ use Rattle.faults.specs.declared.reason.Reason.TheVariants as reason
 use Rattle.graph.specs.Graphs.{ring}
 use Rattle.graph.proofs.graph.Graph.new.Goals as goal
 
-pub returns-in-Some-first_on_ring : goal.returns-in-Some-first_on_ring
-returns-in-Some-first_on_ring c =
-    ring _ (c.refuses-in-Some-first_on_ring.ensures ∙ ap (λ l. fault reason.TokenFreeRing Graph l 0) c.line.ensures) (search rules) (search rules) (search rules) (search rules)
+pub returns-in-Some : goal.returns-in-Some
+returns-in-Some c =
+    ring _ (c.refuses-in-Some.ensures ∙ ap (λ l. fault reason.TokenFreeRing Graph l 0) c.line.ensures) (search rules) (search rules) (search rules) (search rules)
