@@ -53,8 +53,8 @@ pub numeral_text : (bs : List ℕ) → numeral bs ≡ true → IsUtf8 bs
 numeral_text bs p = IsUtf8-from_ascii bs (digits_text bs (and_parts (all_ascii_digits bs) _ p).0)
 
 -- and it is read as its value
-pub numeral_read : {E : Type 0} (bs : List ℕ) (r : Result ℕ E) → numeral bs ≡ true → ParsesUnsigned 32 10 bs r → r ≡ Ok (value bs)
+pub numeral_read : {E : Type 0} (bs : List ℕ) (r : Result ℕ E) → numeral bs ≡ true → ParsesUnsigned 64 10 bs r → r ≡ Ok (value bs)
 numeral_read bs r p h =
     let n = numeral_is bs p in
     let some : 0 < length bs = grind (arith, nat_tests) in
-    parse_gives own 32 bs r h (and_parts (all_ascii_digits bs) _ p).0 some (omega (arith, n.1))
+    parse_gives own 64 bs r h (and_parts (all_ascii_digits bs) _ p).0 some (omega (arith, n.1))

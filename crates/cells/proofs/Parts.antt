@@ -1,5 +1,5 @@
 -- Lines and fields, cut apart and put together again.
-use Rattle.std.proofs.Common.{◌<◌, suc, zero, get_or, take, ◌≡◌, ℕ, true, cond, ◌&&◌, ◌||◌, eqb, List, [], ◌∷◌, ◌++◌, length, refl, ap, ◌∙◌, arith}
+use Rattle.std.proofs.Common.{◌<◌, ◌≤◌, suc, zero, get_or, take, ◌≡◌, ℕ, true, cond, ◌&&◌, ◌||◌, eqb, List, [], ◌∷◌, ◌++◌, length, refl, ap, ◌∙◌, arith}
 use Rattle.std.specs.List.{flat_map, list_all, AllByRecursion}
 use Rattle.std.proofs.lemmas.List.{nil_from_length}
 use Rattle.std.proofs.lemmas.Bool.Decides.{nat_tests}
@@ -76,3 +76,8 @@ well_is (b ∷ x ∷ xs) zero e = absurd (omega arith)
 well_is (b ∷ x ∷ xs) (suc n) e =
     let more = well_is (x ∷ xs) n (omega arith) in
     grind (arith, nat_tests)
+
+-- a line has no more fields than bytes
+pub fields_few : (l : List ℕ) → length (fields l) ≤ length l
+fields_few [] = omega arith
+fields_few (b ∷ bs) = let more = fields_few bs in let some = some_fields bs in grind (arith, nat_tests)

@@ -1,8 +1,13 @@
-ghost use Rattle.std.specs.Prelude.{◌≡◌, true, false, ◌||◌, ◌==◌, MatchOption};
+ghost use Rattle.std.specs.Prelude.{◌≡◌, false, true, ◌||◌, ◌==◌, MatchOption};
 ghost use Rattle.cells.specs.Bytes.{plain};
 ghost use Rattle.cells.specs.Values.{value, numeral, named};
 
 use std::str::from_utf8;
+
+// The most digits of a number, and the most bytes of a name.
+const MOST_DIGITS: usize = 9;
+
+const LONGEST_NAME: usize = 12;
 
 // A letter or a digit.
 fn is_plain(b: &u8) -> bool
@@ -23,13 +28,14 @@ fn is_numeral(part: &[u8]) -> bool
     ensures { result ≡ numeral part.now }
 {
     match part {
-        [b'1'..=b'9', ..] => part.len() <= 9 && part.iter().all(u8::is_ascii_digit),
-        _ => matches!(part, [b'0']),
+        [b'0'] => true,
+        [b'1'..=b'9', ..] => part.len() <= MOST_DIGITS && part.iter().all(u8::is_ascii_digit),
+        _ => false,
     }
 }
 
 // The number that a numeral writes.
-pub(crate) fn number_of(part: &[u8]) -> Option<u32>
+pub(crate) fn number_of(part: &[u8]) -> Option<u64>
     ensures { MatchOption result (numeral part.now ≡ false) (λ n. (numeral part.now ≡ true) × (n ≡ value part.now)) }
 {
     if !is_numeral(part) {
@@ -42,8 +48,7 @@ pub(crate) fn number_of(part: &[u8]) -> Option<u32>
 pub(crate) fn is_named(part: &[u8]) -> bool
     ensures { result ≡ named part.now }
 {
-    match part {
-        [b'a'..=b'z', ..] => part.len() <= 12 && part.iter().all(is_plain),
-        _ => false,
-    }
+    part.first().is_some_and(u8::is_ascii_lowercase)
+        && part.len() <= LONGEST_NAME
+        && part.iter().all(is_plain)
 }

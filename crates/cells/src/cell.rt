@@ -9,8 +9,9 @@ use faults::reason::Reason;
 use kinds::kind::Kind;
 use lexer::token::Token;
 
-// The number of a field, from `low` to `high`.
-pub fn number_in(t: Token<'_>, low: u32, high: u32) -> Result<u32, Fault>
+/// The number of a field, from `low` to `high`.
+// Two bounds and no RangeInclusive: such a range can be used up, and the contract would have to ask that this one is not.
+pub fn number_in(t: Token<'_>, low: u64, high: u64) -> Result<u64, Fault>
     ensures { Meets result (bad (not (number low high t.entry.part.now)) NumberRange t.entry.line t.entry.field ∷ []) (λ n. n ≡ value t.entry.part.now) }
 {
     number_of(t.part)
@@ -18,7 +19,7 @@ pub fn number_in(t: Token<'_>, low: u32, high: u32) -> Result<u32, Fault>
         .ok_or(t.refused(Reason::NumberRange))
 }
 
-// The name in a field.
+/// The name in a field.
 pub fn name_in<'a>(t: Token<'a>) -> Result<&'a [u8], Fault>
     ensures { Meets result (bad (not (named t.entry.part.now)) Word t.entry.line t.entry.field ∷ []) (λ n. n.now ≡ t.entry.part.now) }
 {
@@ -29,7 +30,7 @@ pub fn name_in<'a>(t: Token<'a>) -> Result<&'a [u8], Fault>
     }
 }
 
-// The kind that a field names.
+/// The kind that a field names.
 pub fn kind_in(t: Token<'_>) -> Result<Kind, Fault>
     ensures { Meets result (bad (not (a_kind t.entry.part.now)) Word t.entry.line t.entry.field ∷ []) (λ k. k ≡ kind_of t.entry.part.now) }
 {

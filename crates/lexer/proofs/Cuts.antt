@@ -1,6 +1,10 @@
 -- A text cut after its first line, and a line after its first field.
-use Rattle.std.proofs.Common.{◌≡◌, ℕ, suc, ◌+◌, ◌<◌, min, Bool, true, false, cond, not, eqb, List, [], ◌∷◌, ◌++◌, length, take, drop, refl, ap, ◌∙◌, one-add, add-one, arith}
+use Rattle.std.proofs.Common.{◌≡◌, ℕ, suc, ◌+◌, ◌<◌, ◌≤◌, min, Bool, true, false, cond, not, eqb, List, [], ◌∷◌, ◌++◌, length, take, drop, Option, None, Some, Bor, inl, inr, refl, sym, ap, ◌∙◌, one-add, add-one, arith, length-append}
+use Rattle.std.specs.Option.{unwrap_or}
+use Rattle.std.specs.Slice.{IsGetRangeResult}
+use Rattle.std.specs.Bool.{MatchBool}
 use Rattle.std.specs.List.{IsFirstMatchOrLen, position_or_len, before_first, after_first}
+use Rattle.std.proofs.lemmas.List.{take_all, take_at, take_rest, drop_all}
 use Rattle.std.proofs.lemmas.List.Sums.{position_or_len_is}
 use Rattle.std.proofs.Math.Seq.{take-append_seam}
 use Rattle.std.proofs.lemmas.Grind.{common_steps}
@@ -36,3 +40,21 @@ fields_step false b (x ∷ xs) more = rw (← add-one (position_or_len separates
 pub first_field : (bs : List ℕ) → 0 < length bs → fields bs ≡ before_first separates bs ∷ fields (after_first separates bs)
 first_field [] h = absurd (omega arith)
 first_field (b ∷ bs) h = rw (add-one, one-add (position_or_len separates bs)) (fields_step (separates b) b bs (first_field bs))
+
+-- a front is cut off at its length
+front : (whole : Bool) (bs part more : List ℕ) → MatchBool whole (bs ≡ part) ((y : ℕ) × (bs ≡ part ++ (y ∷ more))) → (take (length part) bs ≡ part) × (length part ≤ length bs)
+front true bs part more e = rw e (take_all (length part) part (omega arith), omega arith)
+front false bs part more e = rw e.1 (take_at part (e.0 ∷ more) (length part) refl, omega (arith, length-append part (e.0 ∷ more)))
+
+-- the first part that `split` gives is the first field
+pub first_part : (whole : Bool) (bs part more : List ℕ) → MatchBool whole (bs ≡ part) ((y : ℕ) × (bs ≡ part ++ (y ∷ more))) → IsFirstMatchOrLen separates bs (length part) → 0 < length bs → fields bs ≡ part ∷ fields (drop (length part + 1) bs)
+first_part whole bs part more cut first some =
+    let f = front whole bs part more cut in
+    let at : position_or_len separates bs ≡ length part = position_or_len_is separates bs (length part) 0 f.1 (λ k h. first.0 k 0 (omega arith) h) (λ h. first.1 h 0) in
+    let is : before_first separates bs ≡ part = ap (λ n. take n bs) at ∙ f.0 in
+    first_field bs some ∙ (λ i. is i ∷ fields (drop (at i + 1) bs))
+
+-- what `get` gives behind a place, or nothing where it is past the end
+pub past_place : (bs : List ℕ) (n : ℕ) (r : Option (Bor (List ℕ))) (d x : Bor (List ℕ)) → IsGetRangeResult bs n (length bs) r → d.now ≡ [] → x ≡ unwrap_or r d → x.now ≡ drop n bs
+past_place bs n None d x g z e = ap (λ (b : Bor (List ℕ)). b.now) e ∙ z ∙ sym (drop_all n bs (elim g.0 [ inl h ↦ omega arith | inr h ↦ omega arith ]))
+past_place bs n (Some y) d x g z e = ap (λ (b : Bor (List ℕ)). b.now) e ∙ g.0.2 ∙ take_rest bs n

@@ -3,16 +3,11 @@ use Rattle.std.specs.Prelude.{◌≡◌, ℕ, ◌+◌, ◌-◌, ◌^◌, min, Li
 use Rattle.lexer.specs.declared.token.Token.{Token}
 use Rattle.lexer.specs.declared.token.Shape.{Shape}
 use Rattle.lexer.specs.declared.token.Shape.TheVariants.{Word, Number, LineEnd}
-use Rattle.lexer.specs.declared.lines.Lines.{Lines}
 use Rattle.lexer.specs.declared.fields.Fields.{Fields}
-use Rattle.lexer.specs.Text.{lines, fields}
 use Rattle.lexer.specs.Shapes.{shape_of}
 
-abbrev pub lines_left : Lines → List (List ℕ)
-lines_left l = lines l.rest.now
-
 abbrev pub fields_left : Fields → List (List ℕ)
-fields_left f = fields f.rest.now
+fields_left f = f.parts
 
 -- The token is the first field that is left, at its place.
 pub record Took (f : Fields) (t : Token) (g : Fields) : Type 0 where

@@ -2,4 +2,5 @@
 
 pub mod fields;
 pub mod lines;
+pub mod parts;
 pub mod token;

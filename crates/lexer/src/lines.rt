@@ -1,17 +1,27 @@
 ghost use Rattle.std.specs.Prelude.{◌≡◌};
 ghost use Rattle.std.specs.Iterator.{YieldsFirstRef, item_count};
 ghost use Rattle.lexer.specs.Text.{lines};
-ghost use Rattle.lexer.specs.Left.{lines_left};
 
-// The lines of a text, each with its end.
+use std::marker::Model;
+
+/// The lines of a text, each with its end.
 #[derive(Drop)]
 pub struct Lines<'a> {
     rest: &'a [u8],
 }
 
+impl<'a> Model for Lines<'a> {
+    ghost use Rattle.std.specs.Prelude.{ℕ, List};
+    ghost use Rattle.lexer.specs.Text.{lines};
+
+    ghost Value = { List (List ℕ) };
+
+    ghost view = { λ l. lines l.rest.now };
+}
+
 impl<'a> Lines<'a> {
     pub fn new(text: &'a [u8]) -> Lines<'a>
-        ensures { lines_left result ≡ lines text.now }
+        ensures { result ≡ lines text.now }
     {
         Lines { rest: text }
     }
@@ -20,9 +30,9 @@ impl<'a> Lines<'a> {
 impl<'a> Iterator for Lines<'a> {
     type Item = &'a [u8];
 
-    ghost next_gives = { YieldsFirstRef lines_left };
+    ghost next_gives = { YieldsFirstRef (λ l. l) };
 
-    ghost remaining = { item_count lines_left };
+    ghost remaining = { item_count (λ l. l) };
 
     fn next(&mut self) -> Option<&'a [u8]> {
         let line = self.rest.split_inclusive(|b| *b == b'\n').next()?;
