@@ -4,12 +4,11 @@ use Rattle.faults.specs.Faults.{fault}
 use Rattle.faults.specs.declared.fault.Fault.{Fault}
 use Rattle.faults.specs.declared.layer.Layer.TheVariants.{Reader}
 use Rattle.faults.specs.declared.reason.Reason.TheVariants as reason
-use Rattle.lexer.specs.Left.{lines_left}
 use Rattle.sheet_lines.specs.declared.line.Line.{Line}
 use Rattle.reader.specs.declared.numbered_lines.NumberedLines.{NumberedLines}
 
 abbrev pub left : NumberedLines → List (List ℕ)
-left s = lines_left s.lines
+left s = s.lines
 
 -- no bytes where no line is left
 abbrev pub next_line : NumberedLines → List ℕ

@@ -45,14 +45,14 @@ impl Above<'_> {
             .position(|task| task.name.as_bytes() == name)
     }
 
-    // Whether a task has this name.
+    /// Whether a task has this name.
     pub(crate) fn is_taken(&self, name: &[u8]) -> bool
         ensures { result ≡ taken self.now name.now }
     {
         self.find(name).is_some()
     }
 
-    // The place of the task that a field names.
+    /// The place of the task that a field names.
     pub(crate) fn place_of(&self, t: Token<'_>) -> Result<usize, Fault>
         ensures { Meets result (task_checks self.now t.entry.line t.entry.field t.entry.part.now) (λ v. v ≡ index_of self.now t.entry.part.now) }
     {

@@ -17,7 +17,7 @@ fn ends_in(line: Line<'_>, above: &Above<'_>) -> Result<Edge, Fault>
     let mut values = line.values(3)?;
     let from = values.place(above)?;
     let to = values.place(above)?;
-    let tokens = values.number(0, MOST_TOKENS as u32)?;
+    let tokens = values.number(0, MOST_TOKENS)?;
     Ok(Edge { from, to, tokens })
 }
 

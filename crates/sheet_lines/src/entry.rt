@@ -30,7 +30,7 @@ fn task_in(line: Line<'_>) -> Result<SheetTask, Fault>
 {
     let mut values = line.values(10)?;
     let name = values.name()?;
-    let time = values.number(1, LONGEST_TIME as u32)?;
+    let time = values.number(1, LONGEST_TIME)?;
     let kind = values.kind()?;
     let slice = values.settings(1)?;
     let layer = values.settings(0)?;

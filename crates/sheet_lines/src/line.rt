@@ -38,7 +38,8 @@ impl<'a> Line<'a> {
         self.text == b"\n".as_slice()
     }
 
-    // Refuses a line that is not there, or has other bytes than those of the format and an end.
+    /// Refuses a line that is not there, or has other bytes than those of the format and an end.
+    // No bytes are tested for, though a reader of a text never meets such a line: the clauses of the calls that use this speak of any line.
     pub(crate) fn must_be_whole(self) -> Result<(), Fault>
         ensures { Meets result (bad (missing self.entry.text.now) Heading self.entry.number 0 ∷ bad (not (well self.entry.text.now)) ForeignByte self.entry.number 0 ∷ []) (λ _. well self.entry.text.now ≡ true) }
     {
@@ -46,7 +47,7 @@ impl<'a> Line<'a> {
         self.must(is_well(self.text), Reason::ForeignByte)
     }
 
-    // Refuses a line that is not whole, or is not the one that has to stand here.
+    /// Refuses a line that is not whole, or is not the one that has to stand here.
     pub(crate) fn must_be_given(self, is_given: bool) -> Result<(), Fault>
         ensures { Meets result (bad (missing self.entry.text.now) Heading self.entry.number 0 ∷ bad (not (well self.entry.text.now)) ForeignByte self.entry.number 0 ∷ bad (not is_given) Heading self.entry.number 0 ∷ []) (λ _. Unit {0}) }
     {
@@ -54,7 +55,7 @@ impl<'a> Line<'a> {
         self.must(is_given, Reason::Heading)
     }
 
-    // The values of a line that has `n` fields.
+    /// The values of a line that has `n` fields.
     pub(crate) fn values(self, n: usize) -> Result<Values<'a>, Fault>
         ensures { Meets result (bad (not (parted n self.entry.text.now)) FieldCount self.entry.number 0 ∷ []) (λ v. Begins n self.entry.text.now self.entry.number v.fields) }
     {

@@ -33,5 +33,5 @@ pub fn goal_in(line: Line<'_>) -> Result<u64, Fault>
 {
     line.must_be_whole()?;
     line.must(!line.is_gap(), Reason::Heading)?;
-    line.values(1)?.number(1, LONGEST_GOAL as u32)
+    line.values(1)?.number(1, LONGEST_GOAL)
 }

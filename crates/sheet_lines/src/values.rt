@@ -14,7 +14,7 @@ use lexer::token::Token;
 use names::name::Name;
 use servers::settings::{LONGEST_PERIOD, Settings};
 
-// The values that are left of a line.
+/// The values that are left of a line.
 #[derive(Drop)]
 pub(crate) struct Values<'a> {
     pub(crate) fields: Fields<'a>,
@@ -27,11 +27,10 @@ impl<'a> Values<'a> {
         self.fields.next()
     }
 
-    pub(crate) fn number(&mut self, low: u32, high: u32) -> Result<u64, Fault>
+    pub(crate) fn number(&mut self, low: u64, high: u64) -> Result<u64, Fault>
         ensures { Meets result (here (number_checks low high) 0 self.old.fields) (λ n. (n ≡ value (part 0 self.old.fields)) × Passed 1 self.old.fields self.new.fields) }
     {
-        let number = number_in(self.next(), low, high)?;
-        Ok(u64::from(number))
+        number_in(self.next(), low, high)
     }
 
     pub(crate) fn name(&mut self) -> Result<Name, Fault>
@@ -47,20 +46,20 @@ impl<'a> Values<'a> {
         kind_in(self.next())
     }
 
-    // The place of the task that is named.
+    /// The place of the task that is named.
     pub(crate) fn place(&mut self, above: &Above<'_>) -> Result<usize, Fault>
         ensures { Meets result (here (task_checks above.now) 0 self.old.fields) (λ v. (v ≡ index_of above.now (part 0 self.old.fields)) × Passed 1 self.old.fields self.new.fields) }
     {
         above.place_of(self.next())
     }
 
-    // A server's period and slice from `low` on, and its phase.
-    pub(crate) fn settings(&mut self, low: u32) -> Result<Settings, Fault>
+    /// A server's period and slice from `low` on, and its phase.
+    pub(crate) fn settings(&mut self, low: u64) -> Result<Settings, Fault>
         ensures { Meets result (here (number_checks low 65535) 0 self.old.fields ++ (here (number_checks low 65535) 1 self.old.fields ++ here (number_checks 0 65534) 2 self.old.fields)) (λ s. (s ≡ settings_from self.old.fields) × Passed 3 self.old.fields self.new.fields) }
     {
-        let period = self.number(low, LONGEST_PERIOD as u32)?;
-        let slice = self.number(low, LONGEST_PERIOD as u32)?;
-        let phase = self.number(0, LONGEST_PERIOD as u32 - 1)?;
+        let period = self.number(low, LONGEST_PERIOD)?;
+        let slice = self.number(low, LONGEST_PERIOD)?;
+        let phase = self.number(0, LONGEST_PERIOD - 1)?;
         Ok(Settings {
             period,
             slice,
