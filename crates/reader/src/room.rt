@@ -15,6 +15,7 @@ pub struct Room {
 }
 
 impl Room {
+    /// All the memory that reading a sheet wants.
     pub fn new(heap: Global) -> Result<Room, AllocError> {
         let entries = Entries::new(heap)?;
         let edges = Reserved::new(heap)?;
