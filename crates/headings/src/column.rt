@@ -1,6 +1,10 @@
+ghost use Rattle.std.specs.Prelude.{Some, codes};
 ghost use Rattle.headings.specs.Columns.{Heads};
 
-// The columns of a sheet's tables.
+use std::error::Error;
+use std::fmt;
+
+/// The columns of a sheet's tables.
 #[derive(Clone, Copy, PartialEq, Eq, Debug)]
 pub enum Column {
     Goal,
@@ -19,11 +23,21 @@ pub enum Column {
     Tokens,
 }
 
-// A word that names no column.
+/// A word that names no column.
 #[derive(Clone, Copy, PartialEq, Eq, Debug)]
 pub struct UnknownColumn;
 
-// The column that a word of a heading names.
+impl fmt::Display for UnknownColumn {
+    ghost output = { λ _. Some (codes "no column of a sheet has this name") };
+
+    fn fmt<W: fmt::Write>(&self, f: &mut fmt::Formatter<W>) -> fmt::Result {
+        write!(f, "no column of a sheet has this name")
+    }
+}
+
+impl Error for UnknownColumn {}
+
+/// The column that a word of a heading names.
 impl TryFrom<&[u8]> for Column {
     type Error = UnknownColumn;
 

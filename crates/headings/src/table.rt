@@ -5,10 +5,9 @@ ghost use Rattle.headings.specs.Columns.{column_word};
 ghost use Rattle.headings.specs.Tables.{table_columns, heading};
 
 use crate::column::Column;
-use lexer::fields::Fields;
-use lexer::token::Shape;
+use lexer::parts::Parts;
 
-// The tables of a sheet, in their order.
+/// The tables of a sheet, in their order.
 #[derive(Clone, Copy, PartialEq, Eq, Debug)]
 pub enum Table {
     Goal,
@@ -17,6 +16,7 @@ pub enum Table {
 }
 
 impl Table {
+    /// The columns of its heading, from left to right.
     pub fn columns(self) -> &'static [Column]
         ensures { result.now ≡ table_columns self }
     {
@@ -43,17 +43,13 @@ impl Table {
 fn names_columns(line: &[u8], columns: &[Column]) -> bool
     ensures { IsTrue result ↔ (fields line.now ≡ map column_word columns.now) }
 {
-    let mut rest = Fields::new(line, 0);
-    // A loop: each step takes a field off the line, which the closure of an `all` would hide from the proof.
-    for column in columns {
-        if Column::try_from(rest.next().part) != Ok(*column) {
-            return false;
-        }
-    }
-    rest.next().shape == Shape::LineEnd
+    Parts::new(line).count() == columns.len()
+        && Parts::new(line)
+            .zip(columns)
+            .all(|(part, column)| Column::try_from(part) == Ok(*column))
 }
 
-// Whether a line in order is the heading of this table.
+/// Whether a line in order is the heading of this table.
 pub fn is_heading(line: &[u8], table: Table) -> bool
     ensures { IsTrue (well line.now) → (IsTrue result ↔ (line.now ≡ heading table)) }
 {
