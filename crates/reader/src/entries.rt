@@ -68,10 +68,7 @@ impl Entries {
         let ServedTask { task, server } = served;
         self.tasks.push(task);
         self.servers.push(server);
-        self.parts.push(Task {
-            time: task.time,
-            inlet: task.inlet,
-        });
+        self.parts.push(Task::from(&task));
     }
 
     /// The tasks, what a graph keeps of them, and their servers.

@@ -37,7 +37,7 @@ impl<'a> Values<'a> {
         ensures { Meets result (here name_checks 0 self.old.fields) (λ n. (name_bytes n ≡ part 0 self.old.fields) × Passed 1 self.old.fields self.new.fields) }
     {
         let name = name_in(self.next())?;
-        Ok(Name::new(name).unwrap())
+        Ok(Name::try_from(name).unwrap())
     }
 
     pub(crate) fn kind(&mut self) -> Result<Kind, Fault>
