@@ -47,3 +47,27 @@ returns-in_err-goal c =
     let h = (goal.at.returns-in_err-goal c).In_ok-heading in
     let r = c.from_residual-in_err-goal in
     handed_on r.result _ (goal_table ls) _ r.ensures.1 (headed h ∙ first_within (goal_checks (get_or ls 1 [])) (exact_checks end 3 (get_or ls 2 [])) _ (aimed h ∙ c.in_err-goal.ensures))
+
+pub returns-in_err-gap : goal.returns-in_err-gap
+returns-in_err-gap c =
+    let ls = left c.args.lines.now in
+    let h = (goal.at.returns-in_err-gap c).In_ok-heading in
+    let third = stands_on 2 (drop 1 ls) c.heading.new.self c.goal.new.self (search rules) (second h) c.in_ok-goal.ensures.1.1 in
+    let line = get_or-drop 1 (drop 1 ls) 0 [] ∙ get_or-drop 1 ls 1 [] in
+    let r = c.from_residual-in_err-gap in
+    handed_on r.result _ (goal_table ls) _ r.ensures.1
+    (headed h ∙ first_after (goal_checks (get_or ls 1 [])) (exact_checks end 3 (get_or ls 2 [])) (aimed h ∙ c.in_ok-goal.ensures.0)
+    ∙ ap (λ l. first (exact_checks end 3 l)) (sym line) ∙ at_stand (exact_checks end) 3 (drop 1 (drop 1 ls)) c.goal.new.self third ∙ c.in_err-gap.ensures)
+
+pub returns : goal.returns
+returns c =
+    let ls = left c.args.lines.now in
+    let h = (goal.at.returns c).In_ok-heading in
+    let third = stands_on 2 (drop 1 ls) c.heading.new.self c.goal.new.self (search rules) (second h) c.in_ok-goal.ensures.1.1 in
+    let line = get_or-drop 1 (drop 1 ls) 0 [] ∙ get_or-drop 1 ls 1 [] in
+    let fourth = stands_on 3 (drop 1 (drop 1 ls)) c.goal.new.self c.gap.new.self (search rules) third c.in_ok-gap.ensures.1 in
+    let aim = ap (λ ms. get_or ms 0 []) (second h).lines ∙ get_or-drop 1 ls 0 [] in (
+      headed h ∙ first_after (goal_checks (get_or ls 1 [])) (exact_checks end 3 (get_or ls 2 [])) (aimed h ∙ c.in_ok-goal.ensures.0)
+          ∙ ap (λ l. first (exact_checks end 3 l)) (sym line) ∙ at_stand (exact_checks end) 3 (drop 1 (drop 1 ls)) c.goal.new.self third ∙ c.in_ok-gap.ensures.0,
+      (c.in_ok-goal.ensures.1.0 ∙ ap (λ l. value (field 0 l)) aim, record { lines = fourth.lines ∙ ap (drop 1) (drop-drop 1 1 ls) ∙ drop-drop 1 2 ls; number = fourth.number }),
+    )
