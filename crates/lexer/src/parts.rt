@@ -20,6 +20,7 @@ impl<'a> Model for Parts<'a> {
 }
 
 impl<'a> Parts<'a> {
+    /// The fields of this line.
     pub fn new(line: &'a [u8]) -> Parts<'a>
         ensures { result ≡ fields line.now }
     {
