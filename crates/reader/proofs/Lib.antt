@@ -1,4 +1,5 @@
 pub mod LinesMore
 pub mod Made
+pub mod Numbered
 pub mod Plans
 pub mod Steps

@@ -56,17 +56,14 @@ stopped es0 ls0 es l ls at f k a n p = k.decide ∙ line_checks es l ls at a n �
 
 -- the empty line that ends the table
 pub record Closed (es0 : List Entry) (ls0 : List (List ℕ)) (es : List Entry) (ls : List (List ℕ)) (at : ℕ) : Type 0 where
-  pub decide : first (entries_checks (names es0) ls0) ≡ first (bad (not (ltb 0 (length es))) reason.Count at 0 ∷ [])
+  pub decide : first (entries_checks (names es0) ls0) ≡ first (bad (eqb (length es) 0) reason.Count at 0 ∷ [])
   pub say : es ≡ es0 ++ map entry_of (up_to_empty ls0)
   pub past : ls ≡ past_empty ls0
-
-none_of : (n : ℕ) → eqb n 0 ≡ not (ltb 0 n)
-none_of n = grind (arith, nat_tests)
 
 pub closed : (es0 : List Entry) (ls0 : List (List ℕ)) (es : List Entry) (l : List ℕ) (ls : List (List ℕ)) (at : ℕ) → Entering es0 ls0 es (l ∷ ls) → at ≡ 5 + length es → empty l ≡ true → Closed es0 ls0 es ls at
 closed es0 ls0 es l ls at k a n =
     let more = entry_checks (names es) (5 + length (names es)) l ++ entries_checks (names es ++ field 0 l ∷ []) ls in
-    let test = ap (λ m. eqb m 0) (length_names es) ∙ none_of (length es) in
+    let test = ap (λ m. eqb m 0) (length_names es) in
     let number = ap (λ m. 5 + m) (length_names es) ∙ sym a in
     record {
       decide = k.decide ∙ ap (λ b. first (cond b (bad (eqb (length (names es)) 0) reason.Count (5 + length (names es)) 0 ∷ []) more)) n ∙ (λ i. first (bad (test i) reason.Count (number i) 0 ∷ []));

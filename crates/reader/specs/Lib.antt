@@ -1,3 +1,4 @@
 pub mod Matched
 pub mod Lists
 pub mod TableChecks
+pub mod Numbered

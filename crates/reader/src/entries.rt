@@ -1,23 +1,25 @@
-ghost use Rattle.std.specs.Prelude.{◌≡◌, ◌<◌, ◌≤◌, List, [], ◌∷◌, ◌++◌, map, length, IfOk, vec_items};
-ghost use Rattle.sheets.specs.Pages.{Entry};
+ghost use Rattle.std.specs.Prelude.{◌≡◌, ◌<◌, ◌≤◌, List, [], ◌∷◌, ◌++◌, map, length, IfOk, vec_items, ◌==◌};
+ghost use Rattle.sheets.specs.Pages.{Entry, names};
 ghost use Rattle.sheets.specs.Offers.{Made};
 ghost use Rattle.sheets.specs.Reads.{entry};
 ghost use Rattle.reader.specs.Matched.{Matched};
 
 use crate::reserved::Reserved;
-use graph::parts::Task;
+use graph::parts::{MOST_TASKS, Task};
 use kinds::any_kind::AnyKind;
 use layers::stack::Stack;
+use sheet_lines::above::Above;
+use sheet_lines::entry::ServedTask;
 use sheets::sheet::SheetTask;
 use std::alloc::{AllocError, Global};
 use std::marker::Model;
 
-// The tasks of a sheet as they were written, and for each its server and what a graph keeps of it: three lists in step, since the sheet, the rack and the graph each keep one, and parting a list of three would allocate.
+/// The tasks of a sheet as they were written, and for each its server and what a graph keeps of it: three lists in step, since the sheet, the rack and the graph each keep one, and parting a list of three would allocate.
 #[derive(Drop)]
 pub(crate) struct Entries {
-    tasks: Reserved<SheetTask, 16>,
-    servers: Reserved<Stack<AnyKind>, 16>,
-    parts: Reserved<Task, 16>,
+    tasks: Reserved<SheetTask, MOST_TASKS>,
+    servers: Reserved<Stack<AnyKind>, MOST_TASKS>,
+    parts: Reserved<Task, MOST_TASKS>,
 }
 
 impl Model for Entries {
@@ -42,33 +44,34 @@ impl Entries {
         })
     }
 
-    pub(crate) fn len(&self) -> usize
-        ensures value { result ≡ length self.now }
-        ensures few { result ≤ 16 }
+    pub(crate) fn is_empty(&self) -> bool
+        ensures { result ≡ (length self.now == 0) }
     {
-        self.tasks.len()
+        self.tasks.is_empty()
     }
 
-    pub(crate) fn tasks(&self) -> &[SheetTask]
-        ensures { map entry result.now ≡ self.now }
+    /// The tasks as those above a line that comes next.
+    pub(crate) fn above(&self) -> Above<'_>
+        ensures names { result ≡ names self.now }
+        ensures few { length self.now ≤ 16 }
     {
-        self.tasks.as_slice()
+        Above {
+            tasks: self.tasks.as_slice(),
+        }
     }
 
-    pub(crate) fn push(&mut self, task: SheetTask, server: Stack<AnyKind>)
+    pub(crate) fn push(&mut self, served: ServedTask)
         requires room { length self.old < 16 }
-        requires made { Made (entry task) server }
-        ensures { self.new ≡ self.old ++ entry task ∷ [] }
+        requires made { Made (entry served.task) served.server }
+        ensures { self.new ≡ self.old ++ entry served.task ∷ [] }
     {
+        let ServedTask { task, server } = served;
         self.tasks.push(task);
         self.servers.push(server);
-        self.parts.push(Task {
-            time: task.time,
-            inlet: task.inlet,
-        });
+        self.parts.push(Task::from(&task));
     }
 
-    // The tasks, what a graph keeps of them, and their servers.
+    /// The tasks, what a graph keeps of them, and their servers.
     pub(crate) fn into_lists(self) -> (Vec<SheetTask>, Vec<Task>, Vec<Stack<AnyKind>>)
         ensures are { map entry (vec_items result.0) ≡ self }
         ensures matched { Matched (vec_items result.0) (vec_items result.1) (vec_items result.2) }

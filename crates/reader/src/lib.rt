@@ -2,6 +2,7 @@
 
 mod entries;
 mod lists;
+mod numbered_lines;
 pub mod read;
 mod reading;
 mod reserved;

@@ -10,7 +10,7 @@ use graph::origin::Origin;
 use rows::Row;
 use sheets::sheet::Sheet;
 
-// The sheet that the text is the written form of, or the first fault of the text.
+/// The sheet that the text is the written form of, or the first fault of the text.
 pub fn read(text: &[u8], room: Room) -> Result<Sheet, Fault>
     ensures reads { Reads text.now result }
     ensures one { OneMeaning }

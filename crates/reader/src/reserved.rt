@@ -1,9 +1,9 @@
-ghost use Rattle.std.specs.Prelude.{◌≡◌, ◌<◌, ◌≤◌, List, [], ◌∷◌, ◌++◌, length, IfOk, vec_items, vec_len, vec_capacity};
+ghost use Rattle.std.specs.Prelude.{◌≡◌, ◌<◌, ◌≤◌, List, [], ◌∷◌, ◌++◌, length, IfOk, vec_items, vec_len, vec_capacity, ◌==◌};
 
 use std::alloc::{AllocError, Global};
 use std::marker::Model;
 
-// A list of at most N items with room for all from the start, so that putting one in never wants memory.
+/// A list of at most N items with room for all from the start, so that putting one in never wants memory.
 #[derive(Drop)]
 pub(crate) struct Reserved<T, const N: usize> {
     list: Vec<T>,
@@ -32,8 +32,15 @@ impl<T: Drop, const N: usize> Reserved<T, N> {
         self.list.len()
     }
 
+    pub(crate) fn is_empty(&self) -> bool
+        ensures { result ≡ (length self.now == 0) }
+    {
+        self.list.is_empty()
+    }
+
     pub(crate) fn as_slice(&self) -> &[T]
-        ensures { result.now ≡ self.now }
+        ensures value { result.now ≡ self.now }
+        ensures few { length self.now ≤ N }
     {
         self.list.as_slice()
     }

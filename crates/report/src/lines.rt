@@ -14,7 +14,8 @@ use std::alloc::AllocError;
 use texts::line::{Cell, put_line};
 use texts::put;
 
-// The line of a fault, as its `Display` has it. By cells: a `writeln!` may fail for any reason, and says nothing of what it then left.
+/// The line of a fault, as its `Display` has it.
+// By cells: a `writeln!` may fail for any reason, and says nothing of what it then left.
 pub(crate) fn put_fault(out: &mut Vec<u8>, fault: Fault) -> Result<(), AllocError>
     ensures { Puts out.old (fault_line fault ++ end) result out.new }
 {
@@ -46,7 +47,7 @@ fn put_tasks(out: &mut Vec<u8>, sheet: &Sheet) -> Result<(), AllocError>
     Ok(())
 }
 
-// The table of a sheet.
+/// The table of a sheet.
 pub(crate) fn put_table(out: &mut Vec<u8>, sheet: &Sheet) -> Result<(), AllocError>
     requires { Ready sheet.now }
     ensures { Puts out.old (figures_table (page sheet.now)) result out.new }

@@ -8,7 +8,7 @@ use reader::room::Room;
 use std::alloc::AllocError;
 use texts::all_or_nothing;
 
-// Appends what is printed of a sheet's text. Where the buffer's room does not suffice and no memory is to be had, the buffer is left as it was.
+/// Appends what is printed of a sheet's text. Where the buffer's room does not suffice and no memory is to be had, the buffer is left as it was.
 pub fn report(out: &mut Vec<u8>, text: &[u8], room: Room) -> Result<(), AllocError>
     ensures { Reported text.now out.old result out.new }
 {

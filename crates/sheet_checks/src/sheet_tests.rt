@@ -13,12 +13,16 @@ const SAMPLE: &[u8] =
 #[test]
 fn sheet_as_types(rt: HostRuntime) -> Result<(), Fail> {
     let sheet = read(SAMPLE, Room::new(rt.alloc())?)?;
-    assert!(rt; sheet.tasks.len() == 2 && sheet.graph.edges.len() == 2);
-    assert!(rt; sheet.tasks[1].name.as_bytes() == b"punch".as_slice());
-    assert!(rt; sheet.tasks[0].inlet && sheet.tasks[0].slice.phase == 4);
-    assert!(rt; sheet.tasks[1].layer.slice == 1 && sheet.graph.goal == 32);
-    assert!(rt; sheet.graph.edges[1].from == 1 && sheet.graph.edges[1].tokens == 255);
-    assert!(rt; sheet.rack.servers.len() == 2);
+    assert_eq!(rt; sheet.tasks.len(), 2);
+    assert_eq!(rt; sheet.graph.edges.len(), 2);
+    assert_eq!(rt; sheet.tasks[1].name.as_bytes(), b"punch".as_slice());
+    assert!(rt; sheet.tasks[0].inlet);
+    assert_eq!(rt; sheet.tasks[0].slice.phase, 4);
+    assert_eq!(rt; sheet.tasks[1].layer.slice, 1);
+    assert_eq!(rt; sheet.graph.goal, 32);
+    assert_eq!(rt; sheet.graph.edges[1].from, 1);
+    assert_eq!(rt; sheet.graph.edges[1].tokens, 255);
+    assert_eq!(rt; sheet.rack.servers.len(), 2);
     Ok(())
 }
 
@@ -27,16 +31,14 @@ fn written_back(rt: HostRuntime) -> Result<(), Fail> {
     let sheet = read(SAMPLE, Room::new(rt.alloc())?)?;
     let mut out = Vec::new(rt.alloc());
     write(&mut out, &sheet)?;
-    assert!(rt; out.as_slice() == SAMPLE);
+    assert_eq!(rt; out.as_slice(), SAMPLE);
     Ok(())
 }
 
 #[test]
 fn names_of_12_bytes(rt: HostRuntime) -> Result<(), Fail> {
-    let Some(name) = Name::new(b"abcdefghijkl") else {
-        return Err(Fail::new("12 bytes are a name"));
-    };
-    assert!(rt; name.as_bytes() == b"abcdefghijkl".as_slice());
+    let name = Name::new(b"abcdefghijkl").ok_or("12 bytes are a name")?;
+    assert_eq!(rt; name.as_bytes(), b"abcdefghijkl".as_slice());
     assert!(rt; Name::new(b"abcdefghijklm").is_none());
     Ok(())
 }
@@ -47,7 +49,10 @@ fn put_as_lines(rt: HostRuntime) -> Result<(), Fail> {
     put_line(&mut out, &[Cell::Word(b"most"), Cell::Number(u64::MAX)])?;
     put_line(&mut out, &[])?;
     put_each(&mut out, &[1, 20, 300], |out, n| put_number(out, *n))?;
-    assert!(rt; out.as_slice() == b"most 18446744073709551615\n\n120300".as_slice());
+    assert_eq!(rt;
+        out.as_slice(),
+        b"most 18446744073709551615\n\n120300".as_slice()
+    );
     Ok(())
 }
 
@@ -56,6 +61,7 @@ fn all_put_or_taken_back(rt: HostRuntime) -> Result<(), Fail> {
     let mut out = Vec::new(rt.alloc());
     all_or_nothing(&mut out, |out| put(out, b"kept"))?;
     let done = all_or_nothing(&mut out, |out| put(out, b" lost").and(Err(AllocError)));
-    assert!(rt; done.is_err() && out.as_slice() == b"kept".as_slice());
+    assert_eq!(rt; done, Err(AllocError));
+    assert_eq!(rt; out.as_slice(), b"kept".as_slice());
     Ok(())
 }

@@ -1,18 +1,23 @@
 -- The values of a line are read from left to right, column by column.
-use Rattle.std.proofs.Common.{◌≡◌, ℕ, ◌+◌, ◌≤◌, true, eqb, List, [], ◌∷◌, ◌++◌, length, get_or, drop, Some, None, sym, refl, ap, ◌∙◌, append_assoc, arith}
+use Rattle.std.proofs.Common.{◌≡◌, ℕ, ◌+◌, ◌≤◌, cond, not, eqb, List, [], ◌∷◌, ◌++◌, length, get_or, drop, Some, None, sym, refl, ap, ◌∙◌, append_assoc, arith}
 use Rattle.std.proofs.lemmas.List.{get_or-drop, drop-drop, length-drop, length-append}
 use Rattle.std.proofs.lemmas.Bool.{and_parts, eqb-true}
 use Rattle.std.proofs.lemmas.Bool.Decides.{nat_tests}
+use Rattle.faults.specs.Faults.{fault}
 use Rattle.faults.specs.declared.fault.Fault.{Fault}
+use Rattle.faults.specs.declared.layer.Layer.TheVariants.{Reader}
+use Rattle.faults.specs.declared.reason.Reason.TheVariants as reason
 use Rattle.lexer.specs.Text.{fields}
 use Rattle.lexer.specs.Left.{fields_left}
 use Rattle.lexer.specs.declared.fields.Fields.{Fields}
-use Rattle.cells.specs.Bytes.{filled, parted}
+use Rattle.cells.specs.Bytes.{filled}
 use Rattle.cells.specs.Checks.{Check, first}
 use Rattle.cells.proofs.Firsts.{first_within, first_after}
+use Rattle.headings.specs.Tables.{table_columns}
 use Rattle.headings.specs.declared.column.Column.{Column}
-use Rattle.sheets.specs.Checks.{column_checks, cell_checks}
-use Rattle.sheet_lines.specs.Values.{FieldChecks, Passed, part, place, here, all_here}
+use Rattle.headings.specs.declared.table.Table.{Table}
+use Rattle.sheets.specs.Checks.{column_checks, cell_checks, value_checks}
+use Rattle.sheet_lines.specs.Values.{FieldChecks, Begins, Passed, part, place, here, all_here}
 
 pub passed_on : (n m : ℕ) (f g e : Fields) → Passed n f g → Passed m g e → Passed (n + m) f e
 passed_on n m f g e p q =
@@ -70,10 +75,16 @@ pub record Left (W : List Check) (ns : List (List ℕ)) (cs : List Column) (n at
   pub room : n + length cs ≡ length fs
   pub short : length fs ≤ 100
 
-pub begun : (ns : List (List ℕ)) (cs : List Column) (at : ℕ) (l : List ℕ) (f : Fields) → parted (length cs) l ≡ true → length cs ≤ 100 → fields_left f ≡ fields l → f.line ≡ at → f.field ≡ 0 → Left (cell_checks ns cs at 0 0 (fields l)) ns cs 0 at (fields l) f
-begun ns cs at l f p short left line field =
-    let many = eqb-true (length (fields l)) (length cs) (and_parts (filled (fields l)) (eqb (length (fields l)) (length cs)) p).1 in
-    record { here = record { left = left; line = line; field = field }; goes_on = refl; room = omega (arith, many); short = omega (arith, many) }
+pub begun : (ns : List (List ℕ)) (t : Table) (at : ℕ) (l : List ℕ) (f : Fields) → length (table_columns t) ≤ 100 → Begins (length (table_columns t)) l at f → Left (value_checks ns t at l) ns (table_columns t) 0 at (fields l) f
+begun ns t at l f short b =
+    let cs = table_columns t in
+    let many = eqb-true (length (fields l)) (length cs) (and_parts (filled (fields l)) (eqb (length (fields l)) (length cs)) b.whole).1 in
+    record {
+      here = record { left = b.left; line = b.line; field = b.field };
+      goes_on = ap (λ p. cond (not p) (Some (fault reason.FieldCount Reader at 0)) (first (cell_checks ns cs at 0 0 (fields l)))) b.whole;
+      room = omega (arith, many);
+      short = omega (arith, many);
+    }
 
 -- the fields of columns gs are in order
 pub past : {W : List Check} {ns : List (List ℕ)} {n at : ℕ} {fs : List (List ℕ)} {f g : Fields} {A : Type 0} (gs cs : List Column) → Left W ns (gs ++ cs) n at fs f → (first (all_here ns gs 0 f) ≡ None) × (A × Passed (length gs) f g) → Left W ns cs (n + length gs) at fs g

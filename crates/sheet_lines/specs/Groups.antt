@@ -1,21 +1,21 @@
--- The checks of the lines of tasks and of edges, in groups.
+-- The checks of the goal's line, on whichever line it stands, and of a task's server.
 use Rattle.std.specs.Prelude.{ℕ, not, List, [], ◌∷◌}
 use Rattle.faults.specs.Faults.{fault}
 use Rattle.faults.specs.declared.layer.Layer.TheVariants.{Server}
 use Rattle.faults.specs.declared.reason.Reason.TheVariants as reason
-use Rattle.cells.specs.Checks.{Check}
-use Rattle.headings.specs.Tables.{table_columns}
-use Rattle.headings.specs.declared.table.Table.TheVariants.{Tasks, Edges}
-use Rattle.sheets.specs.Checks.{cell_checks, legal_server}
+use Rattle.cells.specs.Bytes.{well}
+use Rattle.cells.specs.Checks.{Check, bad}
+use Rattle.headings.specs.declared.table.Table.TheVariants.{Goal}
+use Rattle.sheets.specs.Checks.{missing, empty, value_checks, legal_server}
 use Rattle.sheets.specs.Pages.{Entry}
 
--- All fields of a task's line.
-abbrev pub task_cells : ℕ → List (List ℕ) → List Check
-task_cells line fs = cell_checks [] (table_columns Tasks) line 0 0 fs
-
--- Those of an edge's line; ns are the names of the tasks.
-abbrev pub ends_checks : List (List ℕ) → ℕ → List (List ℕ) → List Check
-ends_checks ns line fs = cell_checks ns (table_columns Edges) line 0 0 fs
+-- On line 2 they are the `goal_checks` of a sheet.
+abbrev pub goal_line_checks : ℕ → List ℕ → List Check
+goal_line_checks line l =
+    bad (missing l) reason.Heading line 0
+    ∷ bad (not (well l)) reason.ForeignByte line 0
+    ∷ bad (empty l) reason.Heading line 0
+    ∷ value_checks [] Goal line l
 
 -- The server's settings.
 abbrev pub server_checks : ℕ → Entry → List Check

@@ -1,12 +1,21 @@
 -- The values that are left of a line, and the checks of each where it stands.
-use Rattle.std.specs.Prelude.{◌≡◌, ℕ, ◌+◌, ◌-◌, ◌^◌, ◌≤◌, min, cond, List, [], ◌∷◌, ◌++◌, length, drop, nat_lt, slice_index_or}
+use Rattle.std.specs.Prelude.{◌≡◌, ℕ, ◌+◌, ◌-◌, ◌^◌, ◌≤◌, true, min, cond, List, [], ◌∷◌, ◌++◌, length, drop, nat_lt, slice_index_or}
 use Rattle.lexer.specs.declared.fields.Fields.{Fields}
 use Rattle.lexer.specs.declared.token.Token.{Token}
 use Rattle.lexer.specs.Left.{fields_left}
+use Rattle.lexer.specs.Text.{fields}
+use Rattle.cells.specs.Bytes.{parted}
 use Rattle.cells.specs.Checks.{Check}
 use Rattle.servers.specs.declared.settings.Settings.{Settings}
 use Rattle.headings.specs.declared.column.Column.{Column}
 use Rattle.sheets.specs.Checks.{column_checks, settings_of}
+
+-- Nothing was read of a line that has n fields and this number.
+pub record Begins (n : ℕ) (text : List ℕ) (number : ℕ) (f : Fields) : Type 0 where
+  pub whole : parted n text ≡ true
+  pub left : fields_left f ≡ fields text
+  pub line : f.line ≡ number
+  pub field : f.field ≡ 0
 
 -- n fields on, in the same line.
 pub record Passed (n : ℕ) (f g : Fields) : Type 0 where

@@ -1,35 +1,36 @@
-ghost use Rattle.std.specs.Prelude.{◌≡◌, true, map};
-ghost use Rattle.lexer.specs.Text.{fields};
-ghost use Rattle.cells.specs.Bytes.{parted};
+ghost use Rattle.std.specs.Prelude.{◌≡◌, []};
 ghost use Rattle.cells.specs.Checks.{Meets};
-ghost use Rattle.sheets.specs.Pages.{names};
+ghost use Rattle.headings.specs.declared.table.Table.TheVariants.{Tasks};
 ghost use Rattle.sheets.specs.Reads.{entry as says};
 ghost use Rattle.sheets.specs.Offers.{Made};
-ghost use Rattle.sheets.specs.Checks.{entry_checks, entry_of};
-ghost use Rattle.sheet_lines.specs.Groups.{task_cells, server_checks};
+ghost use Rattle.sheets.specs.Checks.{value_checks, entry_checks, entry_of};
+ghost use Rattle.sheet_lines.specs.Groups.{server_checks};
 
+use crate::above::Above;
 use crate::line::Line;
-use crate::places::is_taken;
-use crate::values::Values;
-use cells::line::{is_parted, is_well};
-use faults::by_reader::refused;
+use cells::line::is_well;
 use faults::fault::Fault;
+use faults::layer::Layer;
 use faults::reason::Reason;
+use graph::parts::{LONGEST_TIME, MOST_TASKS};
 use kinds::any_kind::AnyKind;
 use layers::stack::Stack;
 use sheets::sheet::SheetTask;
 
-// A sheet has at most this many tasks.
-const MOST: usize = 16;
+/// A task, and the server that its settings make.
+#[derive(Drop)]
+pub struct ServedTask {
+    pub task: SheetTask,
+    pub server: Stack<AnyKind>,
+}
 
 // What a task's line says.
 fn task_in(line: Line<'_>) -> Result<SheetTask, Fault>
-    requires { parted 10 line.text.now ≡ true }
-    ensures { Meets result (task_cells line.entry.number (fields line.entry.text.now)) (λ t. says t ≡ entry_of line.entry.text.now) }
+    ensures { Meets result (value_checks [] Tasks line.entry.number line.entry.text.now) (λ t. says t ≡ entry_of line.entry.text.now) }
 {
-    let mut values = Values::of(line);
+    let mut values = line.values(10)?;
     let name = values.name()?;
-    let time = values.number(1, 65_535)?;
+    let time = values.number(1, LONGEST_TIME)?;
     let kind = values.kind()?;
     let slice = values.settings(1)?;
     let layer = values.settings(0)?;
@@ -52,17 +53,16 @@ fn server_in(task: &SheetTask, line: u32) -> Result<Stack<AnyKind>, Fault>
     Stack::new(below, task.layer, line)
 }
 
-// A task's line below those of `tasks`, and the server that its settings make.
-pub fn entry_in(line: Line<'_>, tasks: &[SheetTask]) -> Result<(SheetTask, Stack<AnyKind>), Fault>
-    ensures { Meets result (entry_checks (names (map says tasks.now)) line.entry.number line.entry.text.now) (λ x. (says x.0 ≡ entry_of line.entry.text.now) × Made (entry_of line.entry.text.now) x.1) }
+/// A task's line below those of other tasks, with the server that its settings make.
+pub fn entry_in(line: Line<'_>, above: &Above<'_>) -> Result<ServedTask, Fault>
+    ensures { Meets result (entry_checks above.now line.entry.number line.entry.text.now) (λ x. (says x.task ≡ entry_of line.entry.text.now) × Made (entry_of line.entry.text.now) x.server) }
 {
     line.must(is_well(line.text), Reason::ForeignByte)?;
-    line.must(tasks.len() < MOST, Reason::Count)?;
-    line.must(is_parted(line.text, 10), Reason::FieldCount)?;
+    line.must(above.len() < MOST_TASKS, Reason::Count)?;
     let task = task_in(line)?;
-    if is_taken(tasks, task.name.as_bytes()) {
-        return Err(refused(Reason::NameTaken, line.number, 1));
+    if above.is_taken(task.name.as_bytes()) {
+        return Err(Layer::Reader.refuses(Reason::NameTaken, line.number, 1));
     }
     let server = server_in(&task, line.number)?;
-    Ok((task, server))
+    Ok(ServedTask { task, server })
 }

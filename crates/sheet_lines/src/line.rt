@@ -1,45 +1,67 @@
 ghost use Rattle.std.specs.Prelude.{◌≡◌, true, not, [], ◌∷◌};
-ghost use Rattle.faults.specs.declared.reason.Reason.TheVariants.{ForeignByte, Heading};
-ghost use Rattle.cells.specs.Bytes.{well};
+ghost use Rattle.faults.specs.declared.reason.Reason.TheVariants.{ForeignByte, Heading, FieldCount};
+ghost use Rattle.cells.specs.Bytes.{well, parted};
 ghost use Rattle.cells.specs.Checks.{bad, Meets};
 ghost use Rattle.sheets.specs.Checks.{empty, missing};
+ghost use Rattle.sheet_lines.specs.Values.{Begins};
 
-use cells::line::is_well;
-use faults::by_reader::refused;
+use crate::values::Values;
+use cells::line::{is_parted, is_well};
 use faults::fault::Fault;
+use faults::layer::Layer;
 use faults::reason::Reason;
+use lexer::fields::Fields;
 
-// A line of a sheet, and its number.
-#[derive(Clone, Copy)]
+/// A line of a sheet with its end, and its number.
+#[derive(Clone, Copy, PartialEq, Eq, Debug)]
 pub struct Line<'a> {
     pub text: &'a [u8],
     pub number: u32,
 }
 
-impl Line<'_> {
-    // Refuses the line as a whole, unless what has to hold of it does.
+impl<'a> Line<'a> {
+    /// Refuses the line as a whole, unless what has to hold of it does.
     pub fn must(self, holds: bool, reason: Reason) -> Result<(), Fault>
         ensures { Meets result (bad (not holds) reason self.entry.number 0 ∷ []) (λ _. holds ≡ true) }
     {
         if holds {
             Ok(())
         } else {
-            Err(refused(reason, self.number, 0))
+            Err(Layer::Reader.refuses(reason, self.number, 0))
         }
     }
 
-    // Whether this is the empty line, as between two tables.
-    pub fn is_empty(self) -> bool
+    /// Whether nothing stands before the line's end, as between two tables.
+    pub fn is_gap(self) -> bool
         ensures { result ≡ empty self.entry.text.now }
     {
         self.text == b"\n".as_slice()
     }
 
-    // Refuses a line that is not there, or has other bytes than those of the format and an end.
+    /// Refuses a line that is not there, or has other bytes than those of the format and an end.
+    // No bytes are tested for, though a reader of a text never meets such a line: the clauses of the calls that use this speak of any line.
     pub(crate) fn must_be_whole(self) -> Result<(), Fault>
         ensures { Meets result (bad (missing self.entry.text.now) Heading self.entry.number 0 ∷ bad (not (well self.entry.text.now)) ForeignByte self.entry.number 0 ∷ []) (λ _. well self.entry.text.now ≡ true) }
     {
         self.must(!self.text.is_empty(), Reason::Heading)?;
         self.must(is_well(self.text), Reason::ForeignByte)
+    }
+
+    /// Refuses a line that is not whole, or is not the one that has to stand here.
+    pub(crate) fn must_be_given(self, is_given: bool) -> Result<(), Fault>
+        ensures { Meets result (bad (missing self.entry.text.now) Heading self.entry.number 0 ∷ bad (not (well self.entry.text.now)) ForeignByte self.entry.number 0 ∷ bad (not is_given) Heading self.entry.number 0 ∷ []) (λ _. Unit {0}) }
+    {
+        self.must_be_whole()?;
+        self.must(is_given, Reason::Heading)
+    }
+
+    /// The values of a line that has `n` fields.
+    pub(crate) fn values(self, n: usize) -> Result<Values<'a>, Fault>
+        ensures { Meets result (bad (not (parted n self.entry.text.now)) FieldCount self.entry.number 0 ∷ []) (λ v. Begins n self.entry.text.now self.entry.number v.fields) }
+    {
+        self.must(is_parted(self.text, n), Reason::FieldCount)?;
+        Ok(Values {
+            fields: Fields::new(self.text, self.number),
+        })
     }
 }

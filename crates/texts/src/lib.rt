@@ -10,21 +10,24 @@ pub mod line;
 use itoa::Buffer;
 use std::alloc::AllocError;
 
-// Appends the bytes. The buffer is the caller's own Vec, with no type of ours round it: nothing else goes with it.
+/// Appends the bytes.
+// The buffer is the caller's own Vec, with no type of ours round it: nothing else goes with it.
 pub fn put(out: &mut Vec<u8>, bytes: &[u8]) -> Result<(), AllocError>
     ensures { Puts out.old bytes.now result out.new }
 {
     out.extend_from_slice(bytes)
 }
 
-// Appends n in decimal. By `itoa`, since a `write!` may fail for any reason, and this fails only where the buffer has no room.
+/// Appends n in decimal.
+// By `itoa`, since a `write!` may fail for any reason, and this fails only where the buffer has no room.
 pub fn put_number(out: &mut Vec<u8>, n: u64) -> Result<(), AllocError>
     ensures { Puts out.old (decimal n) result out.new }
 {
     put(out, Buffer::new().format(n).as_bytes())
 }
 
-// Appends the text of each item, in order, where `put_item` appends that of one. By a `for`: of what the closure of a `try_for_each` changed its contract says nothing.
+/// Appends the text of each item, in order, where `put_item` appends that of one.
+// By a `for`: of what the closure of a `try_for_each` changed its contract says nothing.
 pub fn put_each<T, F: Fn(&mut Vec<u8>, &T) -> Result<(), AllocError>>(
     out: &mut Vec<u8>,
     items: &[T],
@@ -39,7 +42,7 @@ pub fn put_each<T, F: Fn(&mut Vec<u8>, &T) -> Result<(), AllocError>>(
     Ok(())
 }
 
-// Appends all that `append` does, or, where it fails, cuts the buffer back to as many bytes as it had, so that what was appended is gone.
+/// Appends all that `append` does, or, where it fails, cuts the buffer back to as many bytes as it had, so that what was appended is gone.
 pub fn all_or_nothing<F: FnOnce(&mut Vec<u8>) -> Result<(), AllocError>>(
     out: &mut Vec<u8>,
     append: F,

@@ -6,8 +6,8 @@ ghost use Rattle.texts.specs.Cells.{cell_text};
 use crate::{put, put_each, put_number};
 use std::alloc::AllocError;
 
-// What stands in one field of a line.
-#[derive(Clone, Copy)]
+/// What stands in one field of a line.
+#[derive(Clone, Copy, PartialEq, Eq, Debug)]
 pub enum Cell<'a> {
     Word(&'a [u8]),
     Number(u64),
@@ -22,7 +22,7 @@ fn put_cell(out: &mut Vec<u8>, cell: &Cell<'_>) -> Result<(), AllocError>
     }
 }
 
-// A field that does not open its line: behind a space.
+/// A field that does not open its line: behind a space.
 pub fn put_next(out: &mut Vec<u8>, cell: &Cell<'_>) -> Result<(), AllocError>
     ensures { Puts out.old (32 ∷ cell_text cell.now) result out.new }
 {
@@ -30,7 +30,7 @@ pub fn put_next(out: &mut Vec<u8>, cell: &Cell<'_>) -> Result<(), AllocError>
     put_cell(out, cell)
 }
 
-// Appends a line: its fields with one space between them, and the line end.
+/// Appends a line: its fields with one space between them, and the line end.
 pub fn put_line(out: &mut Vec<u8>, cells: &[Cell<'_>]) -> Result<(), AllocError>
     ensures { Puts out.old (line_of (map cell_text cells.now)) result out.new }
 {

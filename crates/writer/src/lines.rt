@@ -8,6 +8,7 @@ use sheets::sheet::SheetTask;
 use std::alloc::AllocError;
 use texts::line::{Cell, put_line};
 
+/// A task's line.
 pub(crate) fn put_entry(out: &mut Vec<u8>, task: &SheetTask) -> Result<(), AllocError>
     ensures { Puts out.old (entry_line (entry task.now)) result out.new }
 {
@@ -26,14 +27,14 @@ pub(crate) fn put_entry(out: &mut Vec<u8>, task: &SheetTask) -> Result<(), Alloc
     put_line(out, &cells)
 }
 
-// The name of the task at this place; none where there is no such task.
+// The name of the task at this place; none where there is no such task: a call of `write` takes any sheet, and one whose type says that its edges end at tasks would ask more of callers.
 fn name_at(tasks: &[SheetTask], place: usize) -> &[u8]
     ensures { result.now ≡ slice_index_or (names (map entry tasks.now)) place [] }
 {
     tasks.get(place).map_or(b"", |task| task.name.as_bytes())
 }
 
-// The tasks are those that the edge's ends are places of.
+/// An edge's line. The tasks are those that the edge's ends are places of.
 pub(crate) fn put_edge(
     out: &mut Vec<u8>,
     tasks: &[SheetTask],

@@ -8,7 +8,8 @@ use std::alloc::AllocError;
 use texts::line::{Cell, put_line};
 use texts::{put, put_each};
 
-// The three tables, with an empty line in front of the second and the third. The headings are written out, as a reader of the code sees them in a sheet; the contract holds them to the columns.
+/// The three tables, with an empty line in front of the second and the third.
+// The headings are written out, as a reader of the code sees them in a sheet; the contract holds them to the columns.
 pub(crate) fn put_sheet(out: &mut Vec<u8>, sheet: &Sheet) -> Result<(), AllocError>
     ensures { Puts out.old (write (page sheet.now)) result out.new }
 {

@@ -4,7 +4,6 @@ use Rattle.cells.specs.Values.{value, kind_of}
 use Rattle.headings.specs.declared.column.Column.{Column}
 use Rattle.headings.specs.declared.column.Column.TheVariants.{Task, Time, Kind, Period, Slice, Phase, Inner, Inslice, Inphase, Inlet}
 use Rattle.headings.specs.declared.table.Table.TheVariants.{Tasks}
-use Rattle.headings.specs.Tables.{table_columns}
 use Rattle.sheets.specs.Checks.{settings_of}
 use Rattle.sheet_lines.proofs.Columns.{begun, past, stopped, holds}
 use Rattle.sheet_lines.proofs.Handed.{handed_on}
@@ -26,23 +25,20 @@ behind_kind = slice ++ behind_slice
 
 pub returns-in_err-name : goal.returns-in_err-name
 returns-in_err-name c =
-    let new = c.of-values.ensures in
-    let none = begun [] (table_columns Tasks) c.args.line.number c.args.line.text.now c.of-values.result.fields c.requires (search rules) new.left new.line new.field in
-    let r = c.from_residual in
+    let none = begun [] Tasks c.args.line.number c.args.line.text.now c.in_ok-values.values.fields (search rules) c.in_ok-values.ensures.1 in
+    let r = c.from_residual-in_err-name in
     handed_on r.result _ _ _ r.ensures.1 (stopped (Task ∷ []) (Time ∷ Kind ∷ behind_kind) none c.in_err-name.ensures)
 
 pub returns-in_err-time : goal.returns-in_err-time
 returns-in_err-time c =
-    let new = c.of-values.ensures in
-    let none = begun [] (table_columns Tasks) c.args.line.number c.args.line.text.now c.of-values.result.fields c.requires (search rules) new.left new.line new.field in
+    let none = begun [] Tasks c.args.line.number c.args.line.text.now c.in_ok-values.values.fields (search rules) c.in_ok-values.ensures.1 in
     let name = past (Task ∷ []) (Time ∷ Kind ∷ behind_kind) none c.in_ok-name.ensures in
     let r = c.from_residual-in_err-time in
     handed_on r.result _ _ _ r.ensures.1 (stopped (Time ∷ []) (Kind ∷ behind_kind) name c.in_err-time.ensures)
 
 pub returns-in_err-kind : goal.returns-in_err-kind
 returns-in_err-kind c =
-    let new = c.of-values.ensures in
-    let none = begun [] (table_columns Tasks) c.args.line.number c.args.line.text.now c.of-values.result.fields c.requires (search rules) new.left new.line new.field in
+    let none = begun [] Tasks c.args.line.number c.args.line.text.now c.in_ok-values.values.fields (search rules) c.in_ok-values.ensures.1 in
     let name = past (Task ∷ []) (Time ∷ Kind ∷ behind_kind) none c.in_ok-name.ensures in
     let time = past (Time ∷ []) (Kind ∷ behind_kind) name c.in_ok-time.ensures in
     let r = c.from_residual-in_err-kind in
@@ -50,8 +46,7 @@ returns-in_err-kind c =
 
 pub returns-in_err-slice : goal.returns-in_err-slice
 returns-in_err-slice c =
-    let new = c.of-values.ensures in
-    let none = begun [] (table_columns Tasks) c.args.line.number c.args.line.text.now c.of-values.result.fields c.requires (search rules) new.left new.line new.field in
+    let none = begun [] Tasks c.args.line.number c.args.line.text.now c.in_ok-values.values.fields (search rules) c.in_ok-values.ensures.1 in
     let name = past (Task ∷ []) (Time ∷ Kind ∷ behind_kind) none c.in_ok-name.ensures in
     let time = past (Time ∷ []) (Kind ∷ behind_kind) name c.in_ok-time.ensures in
     let kind = past (Kind ∷ []) behind_kind time c.in_ok-kind.ensures in
@@ -60,8 +55,7 @@ returns-in_err-slice c =
 
 pub returns-in_err-layer : goal.returns-in_err-layer
 returns-in_err-layer c =
-    let new = c.of-values.ensures in
-    let none = begun [] (table_columns Tasks) c.args.line.number c.args.line.text.now c.of-values.result.fields c.requires (search rules) new.left new.line new.field in
+    let none = begun [] Tasks c.args.line.number c.args.line.text.now c.in_ok-values.values.fields (search rules) c.in_ok-values.ensures.1 in
     let name = past (Task ∷ []) (Time ∷ Kind ∷ behind_kind) none c.in_ok-name.ensures in
     let time = past (Time ∷ []) (Kind ∷ behind_kind) name c.in_ok-time.ensures in
     let kind = past (Kind ∷ []) behind_kind time c.in_ok-kind.ensures in
@@ -71,8 +65,7 @@ returns-in_err-layer c =
 
 pub returns-in_err-inlet : goal.returns-in_err-inlet
 returns-in_err-inlet c =
-    let new = c.of-values.ensures in
-    let none = begun [] (table_columns Tasks) c.args.line.number c.args.line.text.now c.of-values.result.fields c.requires (search rules) new.left new.line new.field in
+    let none = begun [] Tasks c.args.line.number c.args.line.text.now c.in_ok-values.values.fields (search rules) c.in_ok-values.ensures.1 in
     let name = past (Task ∷ []) (Time ∷ Kind ∷ behind_kind) none c.in_ok-name.ensures in
     let time = past (Time ∷ []) (Kind ∷ behind_kind) name c.in_ok-time.ensures in
     let kind = past (Kind ∷ []) behind_kind time c.in_ok-kind.ensures in
@@ -83,8 +76,7 @@ returns-in_err-inlet c =
 
 pub returns : goal.returns
 returns c =
-    let new = c.of-values.ensures in
-    let none = begun [] (table_columns Tasks) c.args.line.number c.args.line.text.now c.of-values.result.fields c.requires (search rules) new.left new.line new.field in
+    let none = begun [] Tasks c.args.line.number c.args.line.text.now c.in_ok-values.values.fields (search rules) c.in_ok-values.ensures.1 in
     let name = past (Task ∷ []) (Time ∷ Kind ∷ behind_kind) none c.in_ok-name.ensures in
     let time = past (Time ∷ []) (Kind ∷ behind_kind) name c.in_ok-time.ensures in
     let kind = past (Kind ∷ []) behind_kind time c.in_ok-kind.ensures in

@@ -1,5 +1,5 @@
 -- Room for another server, and what holds with it.
-use Rattle.std.proofs.Common.{map, ap, arith, length}
+use Rattle.std.proofs.Common.{[], ◌∷◌, ◌++◌, map, ap, ◌∙◌, arith, length}
 use Rattle.sheets.specs.Reads.{entry}
 use Rattle.sheets.proofs.Servers.{all_made_length}
 use Rattle.reader.proofs.Made.{matched_push}
@@ -11,4 +11,4 @@ push-requires-2 c = omega (arith, all_made_length (map entry c.self.inside.tasks
 pub invariant_of-self : goal.invariant_of-self
 invariant_of-self c =
     let old = c.self.inside in
-    matched_push old.tasks _ old.parts _ old.servers _ c.args.task c.args.server c.self.invariant c.requires.made c.push.ensures c.push-3.ensures c.push-2.ensures
+    matched_push old.tasks _ old.parts _ old.servers _ c.args.served.task c.args.served.server c.self.invariant c.requires.made c.push.ensures (c.push-3.ensures ∙ ap (λ part. old.parts ++ part ∷ []) c.from.ensures) c.push-2.ensures

@@ -6,11 +6,11 @@ use Rattle.sheets.specs.Pages.{names}
 use Rattle.sheets.specs.Reads.{entry}
 use Rattle.sheet_lines.specs.Places.{Finds}
 use Rattle.sheet_lines.proofs.Finds.{has, finds}
-use Rattle.sheet_lines.proofs.places.find.Goals as goal
+use Rattle.sheet_lines.proofs.above.Above.find.Goals as goal
 
 pub returns : goal.returns
 returns c =
     let n = c.args.name.now in
-    let ts = c.args.tasks.now in
-    let at = position_from_yields_List (has c.args.name.now) _ _ _ c.position.ensures.ran (YieldsList-from_slice c.args.tasks.now cc) (λ x b q k. search (rules, tests)) in
-    subst (Finds (names (map entry ts)) n) (sym at) (finds ts n)
+    let ts = c.self.inside.tasks.now in
+    let at = position_from_yields_List (has c.args.name.now) _ _ _ c.position.ensures.ran (YieldsList-from_slice ts cc) (λ x b q k. search (rules, tests)) in
+    subst (λ ns. Finds ns n c.position.result) c.self.view_is (subst (Finds (names (map entry ts)) n) (sym at) (finds ts n))
