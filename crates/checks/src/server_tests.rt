@@ -202,15 +202,12 @@ fn rack_by_place(rt: HostRuntime) -> Result<(), Fail> {
         second: Row { servers },
     };
     assert_eq!(rt; rack.places(), 3);
-    assert_eq!(rt; rack.worst(1, 1), Ok(9));
-    assert_eq!(rt; rack.lead(2), Ok(12));
-    assert_eq!(rt; rack.pace(0, 5), Ok(5));
     let no_place = Layer::Runner.refuses(Reason::Missing, 0, 0);
-    assert_eq!(rt; rack.tick(3, false), Err(no_place));
-    assert_eq!(rt; rack.worst(3, 1), Err(no_place));
-    assert_eq!(rt; rack.tick(1, false), Ok(true));
-    assert_eq!(rt; rack.tick(1, false), Ok(false));
-    assert_eq!(rt; rack.tick(2, true), Ok(false));
-    assert_eq!(rt; rack.tick(0, true), Ok(true));
+    let figures = [rack.worst(1, 1), rack.lead(2), rack.pace(0, 5), rack.worst(3, 1)];
+    assert_eq!(rt; figures, [Ok(9), Ok(12), Ok(5), Err(no_place)]);
+    let asked = [(3, false), (1, false), (1, false), (2, true), (0, true)];
+    let ticks = asked.map(|(place, claimed)| rack.tick(place, claimed));
+    let told = [Err(no_place), Ok(true), Ok(false), Ok(false), Ok(true)];
+    assert_eq!(rt; ticks, told);
     Ok(())
 }

@@ -7,6 +7,7 @@ use Rattle.std.proofs.lemmas.Grind.{div_ceil_times}
 use Rattle.std.proofs.lemmas.Nat.{le-div, div_below}
 use Rattle.servers.specs.Slices.{up}
 
+-- std's cases_lt with its two cases in the other order.
 pub le_or_lt : (a b : ℕ) → (a ≤ b) ⊎ (b < a)
 le_or_lt a b = ⊎_elim inr inl (cases_lt b a)
 
