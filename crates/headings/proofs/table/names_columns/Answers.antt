@@ -20,7 +20,7 @@ count-requires-clause-fits c = inl (omega (arith, ap length c.new.ensures, field
 pub returns-else-count-columns : goal.returns-else-count-columns
 returns-else-count-columns c =
     let many = count_from_yields_List c.new.result c.count.result c.count.ensures.ran (YieldsList-from_first (λ x. x.now) (λ p. p) _ c.new.ensures) in
-    (λ t. absurd (grind (arith, nat_tests)), λ e. absurd (c.if-count-columns.false (many ∙ ap length e ∙ length-map c.args.columns.now column_word)))
+    (λ t. absurd (grind (arith, nat_tests)), λ e. absurd (omega (arith, many, ap length e, length-map c.args.columns.now column_word)))
 
 -- the columns, one after another, by their words
 words : (s : Iter Column) (cs : List Column) → iter_rest s ≡ cs → YieldsList fronts (λ y. column_word y.now) s (map column_word cs)
