@@ -10,10 +10,10 @@ use faults::fault::Fault;
 use faults::layer::Layer;
 use faults::reason::Reason;
 
-// The largest sheet.
+// The most bytes of a sheet.
 const MOST_BYTES: usize = 8192;
 
-// What the lines of a text say, or the first fault of one of them.
+/// What the lines of a text say, or the first fault of one of them.
 pub(crate) fn read_lines(text: &[u8], room: Room) -> Result<Lists, Fault>
     ensures { Meets result (checks text.now) (ListsSay (meaning text.now)) }
 {

@@ -17,7 +17,7 @@ use headings::table::Table;
 use sheet_lines::edge::edge_in;
 use sheet_lines::entry::entry_in;
 
-// The first table, and the empty line behind it.
+/// The first table, and the empty line behind it.
 pub(crate) fn goal_table(lines: &mut NumberedLines<'_>) -> Result<u64, Fault>
     requires { lines.old.number ≡ 1 }
     ensures { Meets result (goal_table (left lines.old)) (λ n. (n ≡ value (field 0 (slice_index_or (left lines.old) 1 []))) × Stands 4 (drop 3 (left lines.old)) lines.new) }
@@ -28,7 +28,7 @@ pub(crate) fn goal_table(lines: &mut NumberedLines<'_>) -> Result<u64, Fault>
     Ok(goal)
 }
 
-// The second table, and the empty line that ends it.
+/// The second table, and the empty line that ends it.
 pub(crate) fn task_table(lines: &mut NumberedLines<'_>, entries: &mut Entries) -> Result<(), Fault>
     requires number { lines.old.number ≡ 4 }
     requires none { entries.old ≡ [] }
@@ -45,7 +45,7 @@ pub(crate) fn task_table(lines: &mut NumberedLines<'_>, entries: &mut Entries) -
     }
 }
 
-// The third table, to the text's end.
+/// The third table, to the text's end.
 pub(crate) fn edge_table(
     lines: &mut NumberedLines<'_>,
     entries: &Entries,
