@@ -3,7 +3,6 @@ ghost use Rattle.headings.specs.Columns.{Heads};
 
 use std::error::Error;
 use std::fmt;
-use std::str::from_utf8;
 
 /// The columns of a sheet's tables.
 #[derive(Clone, Copy, PartialEq, Eq, Debug)]
@@ -45,21 +44,21 @@ impl TryFrom<&[u8]> for Column {
     ghost try_from_gives = { λ word r. Heads word.now r };
 
     fn try_from(word: &[u8]) -> Result<Column, UnknownColumn> {
-        match from_utf8(word).map_err(|_| UnknownColumn)? {
-            "goal" => Ok(Column::Goal),
-            "task" => Ok(Column::Task),
-            "time" => Ok(Column::Time),
-            "kind" => Ok(Column::Kind),
-            "period" => Ok(Column::Period),
-            "slice" => Ok(Column::Slice),
-            "phase" => Ok(Column::Phase),
-            "inner" => Ok(Column::Inner),
-            "inslice" => Ok(Column::Inslice),
-            "inphase" => Ok(Column::Inphase),
-            "inlet" => Ok(Column::Inlet),
-            "from" => Ok(Column::From),
-            "to" => Ok(Column::To),
-            "tokens" => Ok(Column::Tokens),
+        match word {
+            b"goal" => Ok(Column::Goal),
+            b"task" => Ok(Column::Task),
+            b"time" => Ok(Column::Time),
+            b"kind" => Ok(Column::Kind),
+            b"period" => Ok(Column::Period),
+            b"slice" => Ok(Column::Slice),
+            b"phase" => Ok(Column::Phase),
+            b"inner" => Ok(Column::Inner),
+            b"inslice" => Ok(Column::Inslice),
+            b"inphase" => Ok(Column::Inphase),
+            b"inlet" => Ok(Column::Inlet),
+            b"from" => Ok(Column::From),
+            b"to" => Ok(Column::To),
+            b"tokens" => Ok(Column::Tokens),
             _ => Err(UnknownColumn),
         }
     }
