@@ -4,15 +4,14 @@ use Rattle.std.specs.List.{AllByRecursion}
 use Rattle.faults.specs.Faults.{fault}
 use Rattle.faults.specs.declared.fault.Fault.{Fault}
 use Rattle.faults.specs.declared.layer.Layer.TheVariants.{Reader}
-use Rattle.faults.specs.declared.reason.Reason.{Reason}
 
 pub record Check : Type 0 where
   pub broken : Bool
   pub told : Fault
 
--- The reader's refusal at a line and a field, where `b` holds.
-abbrev pub bad : Bool → Reason → ℕ → ℕ → Check
-bad b reason line field = record { broken = b; told = fault reason Reader line field }
+-- The reader's fault n at a line and a field, where `b` holds.
+abbrev pub bad : Bool → ℕ → ℕ → ℕ → Check
+bad b n line field = record { broken = b; told = fault n Reader line field }
 
 -- Fault f is told: some check breaks with it, and all before it are in order.
 pub record First (cs : List Check) (f : Fault) : Type 0 where

@@ -1,7 +1,6 @@
 -- The worked figures of the rules, each as it is computed by the definitions and as it is expected.
 use Rattle.std.specs.Prelude.{ℕ, Bool, true, cond, ◌&&◌, List, [], ◌∷◌, ◌==◌, nat_le}
-use Rattle.faults.specs.Numbers.{number_of}
-use Rattle.faults.specs.declared.reason.Reason.TheVariants.{Ceiling}
+use Rattle.faults.specs.Numbers.{number_of, reason_by}
 use Rattle.servers.specs.Service.{Service}
 use Rattle.servers.specs.Figures.{ceiling}
 use Rattle.servers.specs.FixedService.{slice_service}
@@ -27,7 +26,7 @@ fixed_65535_1 = slice_service 65535 1 0
 
 -- The number by which a figure is refused, 0 where it is told.
 abbrev pub refused_by : ℕ → ℕ
-refused_by x = cond (nat_le x ceiling) 0 (number_of Ceiling)
+refused_by x = cond (nat_le x ceiling) 0 (number_of (reason_by 12))
 
 abbrev pub starred : List (ℕ × ℕ)
 starred =

@@ -203,7 +203,12 @@ fn rack_by_place(rt: HostRuntime) -> Result<(), Fail> {
     };
     assert_eq!(rt; rack.places(), 3);
     let no_place = Layer::Runner.refuses(Reason::Missing, 0, 0);
-    let figures = [rack.worst(1, 1), rack.lead(2), rack.pace(0, 5), rack.worst(3, 1)];
+    let figures = [
+        rack.worst(1, 1),
+        rack.lead(2),
+        rack.pace(0, 5),
+        rack.worst(3, 1),
+    ];
     assert_eq!(rt; figures, [Ok(9), Ok(12), Ok(5), Err(no_place)]);
     let asked = [(3, false), (1, false), (1, false), (2, true), (0, true)];
     let ticks = asked.map(|(place, claimed)| rack.tick(place, claimed));

@@ -1,6 +1,6 @@
--- A fault by its reason, layer, line and field, and the line that is printed for it.
+-- A fault by its reason or by the reason's number, with layer, line and field, and the line that is printed for it.
 use Rattle.std.specs.Prelude.{ℕ, List, ◌++◌, codes, decimal}
-use Rattle.faults.specs.Numbers.{number_of}
+use Rattle.faults.specs.Numbers.{number_of, reason_by}
 use Rattle.faults.specs.Words.{word_of}
 use Rattle.faults.specs.declared.error.Error.{Error}
 use Rattle.faults.specs.declared.error.Error.TheVariants.{Refused, Memory}
@@ -8,8 +8,12 @@ use Rattle.faults.specs.declared.fault.Fault.{Fault}
 use Rattle.faults.specs.declared.layer.Layer.{Layer}
 use Rattle.faults.specs.declared.reason.Reason.{Reason}
 
-abbrev pub fault : Reason → Layer → ℕ → ℕ → Fault
-fault reason layer line field = record { reason = reason; layer = layer; line = line; field = field }
+abbrev pub refusal : Reason → Layer → ℕ → ℕ → Fault
+refusal reason layer line field = record { reason = reason; layer = layer; line = line; field = field }
+
+-- by the number that docs/refusals.md gives the reason
+abbrev pub fault : ℕ → Layer → ℕ → ℕ → Fault
+fault number = refusal (reason_by number)
 
 abbrev pub fault_line : Fault → List ℕ
 fault_line f = codes "refused " ++ (word_of f.layer ++ (codes " " ++ (decimal (number_of f.reason) ++ (codes " " ++ (decimal f.line ++ (codes " " ++ decimal f.field))))))

@@ -47,6 +47,6 @@ number_of Times = 19
 abbrev pub reasons : List Reason
 reasons = SheetSize ∷ ForeignByte ∷ Heading ∷ FieldCount ∷ NumberRange ∷ Word ∷ NameTaken ∷ UnknownTask ∷ Count ∷ Settings ∷ TokenFreeRing ∷ Ceiling ∷ Missing ∷ NeedRange ∷ InletFull ∷ ClockSpent ∷ SlotsTaken ∷ Length ∷ Times ∷ []
 
--- The refusal that has a number.
+-- The refusal that has a number: contracts name refusals so, as in reason_by 12.
 abbrev pub reason_by : ℕ → Reason
 reason_by n = slice_index_or reasons (n - 1) SheetSize

@@ -1,5 +1,5 @@
 ghost use Rattle.std.specs.Prelude.{◌≡◌, Some};
-ghost use Rattle.faults.specs.Faults.{fault};
+ghost use Rattle.faults.specs.Faults.{refusal};
 ghost use Rattle.faults.specs.Words.{word_of};
 
 use crate::fault::{Fault, LineNumber};
@@ -34,7 +34,7 @@ impl Layer {
 
     /// A refusal by this part; `field` is 0 where it is of none.
     pub fn refuses(self, reason: Reason, line: LineNumber, field: u32) -> Fault
-        ensures { result ≡ fault reason self line field }
+        ensures { result ≡ refusal reason self line field }
     {
         Fault {
             reason,

@@ -3,8 +3,8 @@ use Rattle.std.specs.Prelude.{◌≡◌, ℕ, ◌<◌, ◌≤◌, Err, Result, M
 use Rattle.faults.specs.Faults.{fault}
 use Rattle.faults.specs.declared.fault.Fault.{Fault}
 use Rattle.faults.specs.declared.layer.Layer.TheVariants as layer
-use Rattle.faults.specs.declared.reason.Reason.TheVariants as reason
 use Rattle.servers.specs.Service.{Service}
+use Rattle.racks.specs.Places.{missing_place}
 use Rattle.graph.specs.declared.figures.Figures.{Figures}
 use Rattle.graph.specs.Racked.{Told}
 
@@ -16,9 +16,9 @@ pub record Are (s : Service) (time : ℕ) (f : Figures) : Type 0 where
 
 -- They are told where none is above the ceiling, and else refused by 12.
 abbrev pub TellsAll : Service → ℕ → Result Figures Fault → Type 0
-TellsAll s time r = MatchResult r (λ f. Are s time f × Told s time) (λ e. (e ≡ fault reason.Ceiling layer.Server 0 0) × (Told s time → ⊥))
+TellsAll s time r = MatchResult r (λ f. Are s time f × Told s time) (λ e. (e ≡ fault 12 layer.Server 0 0) × (Told s time → ⊥))
 
 -- The same of the server at place k: a missing place is refused by 13.
 pub record FiguresTold (places : ℕ) (service : ℕ → Service) (k time : ℕ) (r : Result Figures Fault) : Type 0 where
-  pub missing : places ≤ k → r ≡ Err (fault reason.Missing layer.Runner 0 0)
+  pub missing : places ≤ k → r ≡ Err missing_place
   pub there : k < places → TellsAll (service k) time r

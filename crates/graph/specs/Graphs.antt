@@ -3,7 +3,6 @@ use Rattle.std.specs.Prelude.{◌≡◌, ℕ, List, length, vec_items, Result, M
 use Rattle.faults.specs.Faults.{fault}
 use Rattle.faults.specs.declared.fault.Fault.{Fault}
 use Rattle.faults.specs.declared.layer.Layer.TheVariants as layer
-use Rattle.faults.specs.declared.reason.Reason.TheVariants as reason
 use Rattle.graph.specs.declared.parts.Task.{Task}
 use Rattle.graph.specs.declared.parts.Edge.{Edge}
 use Rattle.graph.specs.declared.origin.Origin.{Origin}
@@ -21,10 +20,10 @@ pub record Legal (goal : ℕ) (ts : List Task) (es : List Edge) : Type 0 where
 
 -- The first check that fails, all before it being in order: its fault is told.
 pub data Refuses (goal : ℕ) (ts : List Task) (es : List Edge) (origin : Origin) (e : Fault) : Type 0 where
-  count : e ≡ fault reason.Count layer.Graph 0 0 → (Counts ts es → ⊥) → Refuses goal ts es origin e
-  range : e ≡ fault reason.NumberRange layer.Graph 0 0 → Counts ts es → (Ranges goal ts es → ⊥) → Refuses goal ts es origin e
-  end : e ≡ fault reason.UnknownTask layer.Graph 0 0 → Counts ts es → Ranges goal ts es → (Ends es (length ts) → ⊥) → Refuses goal ts es origin e
-  ring : (v : ℕ) → e ≡ fault reason.TokenFreeRing layer.Graph (line_of origin v) 0 → Counts ts es → Ranges goal ts es → Ends es (length ts) → Topmost es (length ts) v → Refuses goal ts es origin e
+  count : e ≡ fault 9 layer.Graph 0 0 → (Counts ts es → ⊥) → Refuses goal ts es origin e
+  range : e ≡ fault 5 layer.Graph 0 0 → Counts ts es → (Ranges goal ts es → ⊥) → Refuses goal ts es origin e
+  end : e ≡ fault 8 layer.Graph 0 0 → Counts ts es → Ranges goal ts es → (Ends es (length ts) → ⊥) → Refuses goal ts es origin e
+  ring : (v : ℕ) → e ≡ fault 11 layer.Graph (line_of origin v) 0 → Counts ts es → Ranges goal ts es → Ends es (length ts) → Topmost es (length ts) v → Refuses goal ts es origin e
 
 -- The graph of a goal, tasks and edges.
 pub record IsGraph (goal : ℕ) (ts : List Task) (es : List Edge) (origin : Origin) (g : Graph) : Type 0 where

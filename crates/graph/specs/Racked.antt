@@ -3,8 +3,8 @@ use Rattle.std.specs.Prelude.{◌≡◌, ℕ, ◌+◌, ◌<◌, ◌≤◌, vec_i
 use Rattle.faults.specs.Faults.{fault}
 use Rattle.faults.specs.declared.fault.Fault.{Fault}
 use Rattle.faults.specs.declared.layer.Layer.TheVariants as layer
-use Rattle.faults.specs.declared.reason.Reason.TheVariants as reason
 use Rattle.servers.specs.Service.{Service}
+use Rattle.racks.specs.Places.{missing_place}
 use Rattle.servers.specs.Figures.{ceiling}
 use Rattle.graph.specs.declared.graph.Graph.{Graph}
 use Rattle.graph.specs.Legal.{task_at}
@@ -26,8 +26,8 @@ Racked g places service = (places ≡ vec_len g.tasks) × ((v : ℕ) → v < vec
 
 -- The first check that fails: 13 where the places are not just one per task, else 12 at the line of the first task with a figure above the ceiling.
 pub data RefusesRack (g : Graph) (places : ℕ) (service : ℕ → Service) (e : Fault) : Type 0 where
-  misfit : e ≡ fault reason.Missing layer.Runner 0 0 → (places ≢ vec_len g.tasks) → RefusesRack g places service e
-  above : (v : ℕ) → e ≡ fault reason.Ceiling layer.Graph (line_of g.origin v) 0 → places ≡ vec_len g.tasks → v < vec_len g.tasks → ((u : ℕ) → u < v → TaskTold g service u) → (TaskTold g service v → ⊥) → RefusesRack g places service e
+  misfit : e ≡ missing_place → (places ≢ vec_len g.tasks) → RefusesRack g places service e
+  above : (v : ℕ) → e ≡ fault 12 layer.Graph (line_of g.origin v) 0 → places ≡ vec_len g.tasks → v < vec_len g.tasks → ((u : ℕ) → u < v → TaskTold g service u) → (TaskTold g service v → ⊥) → RefusesRack g places service e
 
 abbrev pub ChecksRack : {U : Type 0} → Graph → ℕ → (ℕ → Service) → Result U Fault → Type 0
 ChecksRack g places service r = MatchResult r (λ _. Racked g places service) (RefusesRack g places service)

@@ -1,5 +1,5 @@
 ghost use Rattle.std.specs.Prelude.{◌≡◌};
-ghost use Rattle.faults.specs.Faults.{fault};
+ghost use Rattle.faults.specs.Faults.{refusal};
 ghost use Rattle.faults.specs.declared.layer.Layer.TheVariants.{Reader as AtReader};
 ghost use Rattle.lexer.specs.Shapes.{shape_of};
 
@@ -40,7 +40,7 @@ pub struct Token<'a> {
 impl Token<'_> {
     /// The reader's refusal of this token, at its place.
     pub fn refused(&self, reason: Reason) -> Fault
-        ensures { result ≡ fault reason AtReader self.now.line self.now.field }
+        ensures { result ≡ refusal reason AtReader self.now.line self.now.field }
     {
         Layer::Reader.refuses(reason, self.line, self.field)
     }

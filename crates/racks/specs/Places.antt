@@ -3,12 +3,11 @@ use Rattle.std.specs.Prelude.{◌≡◌, ℕ, ◌<◌, ◌≤◌, Bool, Err, Res
 use Rattle.faults.specs.Faults.{fault}
 use Rattle.faults.specs.declared.fault.Fault.{Fault}
 use Rattle.faults.specs.declared.layer.Layer.TheVariants.{Runner}
-use Rattle.faults.specs.declared.reason.Reason.TheVariants as reason
 use Rattle.servers.specs.Figures.{Tells}
 
 -- the refusal of a place that a rack lacks
 abbrev pub missing_place : Fault
-missing_place = fault reason.Missing Runner 0 0
+missing_place = fault 13 Runner 0 0
 
 -- A tick at place k: of one that is there it is a step; a missing one is refused by 13, and nothing changes.
 abbrev pub Ticked : {S : Type 0} → (S → ℕ) → (S → ℕ → Bool → Bool → S → Type 0) → S → ℕ → Bool → Result Bool Fault → S → Type 0

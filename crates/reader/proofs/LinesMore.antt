@@ -6,7 +6,6 @@ use Rattle.std.proofs.lemmas.Bool.Decides.{nat_tests}
 use Rattle.faults.specs.Faults.{fault}
 use Rattle.faults.specs.declared.fault.Fault.{Fault}
 use Rattle.faults.specs.declared.layer.Layer.TheVariants as layer
-use Rattle.faults.specs.declared.reason.Reason.TheVariants as reason
 use Rattle.cells.specs.Bytes.{field}
 use Rattle.cells.specs.Checks.{bad, first}
 use Rattle.cells.proofs.Firsts.{first_within, first_after, passed}
@@ -35,7 +34,7 @@ line_checks : (es : List Entry) (l : List ℕ) (ls : List (List ℕ)) (at : ℕ)
 line_checks es l ls at a n =
     let more = entries_checks (names es ++ field 0 l ∷ []) ls in
     let number = ap (λ k. 5 + k) (length_names es) ∙ sym a in
-    ap (λ b. first (cond b (bad (eqb (length (names es)) 0) reason.Count (5 + length (names es)) 0 ∷ []) (entry_checks (names es) (5 + length (names es)) l ++ more))) n
+    ap (λ b. first (cond b (bad (eqb (length (names es)) 0) 9 (5 + length (names es)) 0 ∷ []) (entry_checks (names es) (5 + length (names es)) l ++ more))) n
     ∙ ap (λ k. first (entry_checks (names es) k l ++ more)) number
 
 pub entered : (es0 : List Entry) (ls0 : List (List ℕ)) (es : List Entry) (l : List ℕ) (ls : List (List ℕ)) (at : ℕ) (e : Entry) → Entering es0 ls0 es (l ∷ ls) → at ≡ 5 + length es → empty l ≡ false → first (entry_checks (names es) at l) ≡ None → e ≡ entry_of l → Entering es0 ls0 (es ++ e ∷ []) ls × (length es < 16)
@@ -56,7 +55,7 @@ stopped es0 ls0 es l ls at f k a n p = k.decide ∙ line_checks es l ls at a n �
 
 -- the empty line that ends the table
 pub record Closed (es0 : List Entry) (ls0 : List (List ℕ)) (es : List Entry) (ls : List (List ℕ)) (at : ℕ) : Type 0 where
-  pub decide : first (entries_checks (names es0) ls0) ≡ first (bad (eqb (length es) 0) reason.Count at 0 ∷ [])
+  pub decide : first (entries_checks (names es0) ls0) ≡ first (bad (eqb (length es) 0) 9 at 0 ∷ [])
   pub say : es ≡ es0 ++ map entry_of (up_to_empty ls0)
   pub past : ls ≡ past_empty ls0
 
@@ -66,14 +65,14 @@ closed es0 ls0 es l ls at k a n =
     let test = ap (λ m. eqb m 0) (length_names es) in
     let number = ap (λ m. 5 + m) (length_names es) ∙ sym a in
     record {
-      decide = k.decide ∙ ap (λ b. first (cond b (bad (eqb (length (names es)) 0) reason.Count (5 + length (names es)) 0 ∷ []) more)) n ∙ (λ i. first (bad (test i) reason.Count (number i) 0 ∷ []));
+      decide = k.decide ∙ ap (λ b. first (cond b (bad (eqb (length (names es)) 0) 9 (5 + length (names es)) 0 ∷ []) more)) n ∙ (λ i. first (bad (test i) 9 (number i) 0 ∷ []));
       say = sym (k.say ∙ ap (λ b. es ++ map entry_of (cond b [] (l ∷ up_to_empty ls))) n ∙ append-nil es);
       past = sym (k.past ∙ ap (λ b. cond b ls (past_empty ls)) n);
     }
 
 -- the text ends within the table
-pub broken_off : (es0 : List Entry) (ls0 : List (List ℕ)) (es : List Entry) (at : ℕ) → Entering es0 ls0 es [] → at ≡ 5 + length es → first (entries_checks (names es0) ls0) ≡ Some (fault reason.Heading layer.Reader at 0)
-broken_off es0 ls0 es at k a = k.decide ∙ ap (λ n. Some (fault reason.Heading layer.Reader n 0)) (ap (λ m. 5 + m) (length_names es) ∙ sym a)
+pub broken_off : (es0 : List Entry) (ls0 : List (List ℕ)) (es : List Entry) (at : ℕ) → Entering es0 ls0 es [] → at ≡ 5 + length es → first (entries_checks (names es0) ls0) ≡ Some (fault 3 layer.Reader at 0)
+broken_off es0 ls0 es at k a = k.decide ∙ ap (λ n. Some (fault 3 layer.Reader n 0)) (ap (λ m. 5 + m) (length_names es) ∙ sym a)
 
 -- The same of edges; the tasks' names are ns.
 pub record Linking (ns : List (List ℕ)) (es0 : List Edge) (ls0 : List (List ℕ)) (es : List Edge) (ls : List (List ℕ)) : Type 0 where

@@ -3,7 +3,6 @@ use Rattle.std.proofs.Common.{◌≡◌, ℕ, ◌+◌, ◌<◌, List, [], ◌∷
 use Rattle.faults.specs.Faults.{fault}
 use Rattle.faults.specs.declared.fault.Fault.{Fault}
 use Rattle.faults.specs.declared.layer.Layer.TheVariants.{Reader}
-use Rattle.faults.specs.declared.reason.Reason.TheVariants as reason
 use Rattle.cells.specs.Checks.{Check, first}
 use Rattle.sheet_lines.specs.declared.line.Line.{Line}
 use Rattle.reader.specs.declared.numbered_lines.NumberedLines.{NumberedLines}
@@ -14,7 +13,7 @@ abbrev pub LineChecks : Type 0
 LineChecks = ℕ → List ℕ → List Check
 
 -- no line is left
-pub missed : (F : LineChecks) (s : NumberedLines) (f : Fault) → ((k : ℕ) → first (F k []) ≡ Some (fault reason.Heading Reader k 0)) → left s ≡ [] → f ≡ fault reason.Heading Reader s.number 0 → first (F s.number (next_line s)) ≡ Some f
+pub missed : (F : LineChecks) (s : NumberedLines) (f : Fault) → ((k : ℕ) → first (F k []) ≡ Some (fault 3 Reader k 0)) → left s ≡ [] → f ≡ fault 3 Reader s.number 0 → first (F s.number (next_line s)) ≡ Some f
 missed F s f h e g = ap (λ ls. first (F s.number (get_or ls 0 []))) e ∙ h s.number ∙ ap Some (sym g)
 
 -- line l is the next

@@ -5,7 +5,6 @@ use Rattle.std.proofs.lemmas.Result.{err_from_is_err_and}
 use Rattle.faults.specs.Faults.{fault}
 use Rattle.faults.specs.declared.fault.Fault.{Fault}
 use Rattle.faults.specs.declared.layer.Layer.TheVariants as layer
-use Rattle.faults.specs.declared.reason.Reason.TheVariants as reason
 use Rattle.kinds.specs.declared.any_kind.AnyKind.{AnyKind}
 use Rattle.kinds.specs.AnyKinds.{any_service}
 use Rattle.layers.specs.Stacks.{stack_service}
@@ -68,7 +67,7 @@ rack_refused t p g ss places f is o n k c (above v e m h told not) =
       above = λ x. not ((same_task p g ss v k there).1 x);
       first = λ u l. (same_task p g ss u k (omega (arith, many))).0 (told u l);
     })
-    (e ∙ ap (λ o. fault reason.Ceiling layer.Graph (line_of o v) 0) k.is_graph.origin_is)
+    (e ∙ ap (λ o. fault 12 layer.Graph (line_of o v) 0) k.is_graph.origin_is)
 
 -- a sheet that is accepted
 pub accepted : (t : List ℕ) (p : Page) (s : Sheet) → t ≡ write p → InOrder p → NoRing p.edges (length p.tasks) → entries s ≡ p.tasks → Fitted p s.graph (vec_items s.rack.servers) → Racked s.graph (vec_len s.rack.servers) (row_service (stack_service any_service) (vec_items s.rack.servers)) → Accepted t s

@@ -3,7 +3,6 @@ use Rattle.std.proofs.Common.{◌≡◌, ℕ, false, cond, ◌||◌, eqb, leb, L
 use Rattle.std.proofs.lemmas.List.{get_or-drop, drop-drop}
 use Rattle.faults.specs.Faults.{fault}
 use Rattle.faults.specs.declared.layer.Layer.TheVariants.{Reader}
-use Rattle.faults.specs.declared.reason.Reason.TheVariants as reason
 use Rattle.lexer.specs.Text.{lines, end}
 use Rattle.cells.specs.Checks.{first}
 use Rattle.cells.proofs.Firsts.{first_after}
@@ -28,7 +27,7 @@ by_tables t s =
     let Y = tables.edge_table (names_in ls) 0 (edge_table ls) in
     let there = get_or-drop 3 ls 0 [] in
     let below = drop-drop 1 3 ls in
-    ap (λ b. cond b (Some (fault reason.SheetSize Reader 0 0)) (first (A ++ (B ++ (C ++ (D ++ (E ++ Y))))))) s
+    ap (λ b. cond b (Some (fault 1 Reader 0 0)) (first (A ++ (B ++ (C ++ (D ++ (E ++ Y))))))) s
     ∙ ap first (sym (append_assoc A (B ++ C) (D ++ (E ++ Y)) ∙ ap (λ x. A ++ x) (append_assoc B C (D ++ (E ++ Y)))))
     ∙ ap (λ x. first ((A ++ (B ++ C)) ++ x)) (sym (append_assoc D E Y))
     ∙ (λ i. first ((A ++ (B ++ C)) ++ ((exact_checks (heading table.Tasks) 4 (sym there i) ++ entries_checks [] (sym below i)) ++ Y)))

@@ -3,7 +3,6 @@ use Rattle.std.specs.Prelude.{◌≡◌, ℕ, ◌+◌, ◌-◌, ◌^◌, min, Li
 use Rattle.faults.specs.Faults.{fault}
 use Rattle.faults.specs.declared.fault.Fault.{Fault}
 use Rattle.faults.specs.declared.layer.Layer.TheVariants.{Reader}
-use Rattle.faults.specs.declared.reason.Reason.TheVariants as reason
 use Rattle.sheet_lines.specs.declared.line.Line.{Line}
 use Rattle.reader.specs.declared.numbered_lines.NumberedLines.{NumberedLines}
 
@@ -38,4 +37,4 @@ Next s None t = (left s ≡ []) × (left t ≡ [])
 -- What is answered where a line has to be there.
 abbrev pub Wanted : NumberedLines → Result Line Fault → NumberedLines → Type 0
 Wanted s (Ok l) t = Took s l t
-Wanted s (Err f) t = (left s ≡ []) × (f ≡ fault reason.Heading Reader s.number 0)
+Wanted s (Err f) t = (left s ≡ []) × (f ≡ fault 3 Reader s.number 0)

@@ -3,7 +3,6 @@ use Rattle.std.specs.Prelude.{◌≡◌, ℕ, ◌<◌, ◌≤◌, Result, MatchR
 use Rattle.faults.specs.Faults.{fault}
 use Rattle.faults.specs.declared.fault.Fault.{Fault}
 use Rattle.faults.specs.declared.layer.Layer.TheVariants.{Server}
-use Rattle.faults.specs.declared.reason.Reason.TheVariants as reason
 use Rattle.servers.specs.declared.settings.Settings.{Settings}
 use Rattle.servers.specs.declared.slice.Slice.{Slice}
 use Rattle.servers.specs.declared.own.Own.{Own}
@@ -18,7 +17,7 @@ pub record LegalSlice (s : Settings) : Type 0 where
 
 -- A maker answers a server that was made as M says, exactly from legal settings; it refuses the others by 10, at their line.
 abbrev pub Makes : {S : Type 0} → Type 0 → (S → Type 0) → ℕ → Result S Fault → Type 0
-Makes Legal M line r = MatchResult r (λ s. Legal × M s) (λ e. (e ≡ fault reason.Settings Server line 0) × (Legal → ⊥))
+Makes Legal M line r = MatchResult r (λ s. Legal × M s) (λ e. (e ≡ fault 10 Server line 0) × (Legal → ⊥))
 
 -- The slice that has these settings.
 abbrev pub IsSlice : Settings → Slice → Type 0

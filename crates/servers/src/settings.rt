@@ -1,7 +1,6 @@
 ghost use Rattle.std.specs.Prelude.{◌≡◌};
 ghost use Rattle.faults.specs.Faults.{fault};
 ghost use Rattle.faults.specs.declared.layer.Layer.TheVariants.{Server as AtServer};
-ghost use Rattle.faults.specs.declared.reason.Reason.TheVariants.{Settings as BadSettings};
 
 use faults::fault::{Fault, LineNumber};
 use faults::layer::Layer;
@@ -37,7 +36,7 @@ impl Settings {
 
 /// The refusal of settings that stand on this line.
 pub(crate) fn refused(line: LineNumber) -> Fault
-    ensures { result ≡ fault BadSettings AtServer line 0 }
+    ensures { result ≡ fault 10 AtServer line 0 }
 {
     Layer::Server.refuses(Reason::Settings, line, 0)
 }

@@ -4,7 +4,6 @@ use Rattle.std.specs.List.{All}
 use Rattle.faults.specs.Faults.{fault}
 use Rattle.faults.specs.declared.fault.Fault.{Fault}
 use Rattle.faults.specs.declared.layer.Layer.TheVariants.{Server}
-use Rattle.faults.specs.declared.reason.Reason.TheVariants as reason
 use Rattle.servers.specs.Figures.{ceiling}
 use Rattle.servers.specs.Service.{Service}
 use Rattle.servers.specs.Runs.{Tick, Run}
@@ -35,7 +34,7 @@ pub record Served {S : Type 0} (service : S → Service) (steps : S → Bool →
 abbrev pub Serves : {S U : Type 0} → (S → Service) → (S → Bool → Bool → S → Type 0) → S → Bool → List ℕ → Result U Fault → S → List ℕ → Type 0
 Serves service steps a claimed slots r b times =
     MatchResult r (λ _. ((service a).worst (length slots) ≤ ceiling) × Served service steps a claimed (length slots) times b)
-    (λ e. (e ≡ fault reason.Ceiling Server 0 0) × (ceiling < (service a).worst (length slots)) × (b ≡ a) × (times ≡ slots))
+    (λ e. (e ≡ fault 12 Server 0 0) × (ceiling < (service a).worst (length slots)) × (b ≡ a) × (times ≡ slots))
 
 abbrev pub tick : Bool → Bool → Tick
 tick c g = record { claimed = c; granted = g }

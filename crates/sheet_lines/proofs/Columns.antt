@@ -6,7 +6,6 @@ use Rattle.std.proofs.lemmas.Bool.Decides.{nat_tests}
 use Rattle.faults.specs.Faults.{fault}
 use Rattle.faults.specs.declared.fault.Fault.{Fault}
 use Rattle.faults.specs.declared.layer.Layer.TheVariants.{Reader}
-use Rattle.faults.specs.declared.reason.Reason.TheVariants as reason
 use Rattle.lexer.specs.Text.{fields}
 use Rattle.lexer.specs.Left.{fields_left}
 use Rattle.lexer.specs.declared.fields.Fields.{Fields}
@@ -81,7 +80,7 @@ begun ns t at l f short b =
     let many = eqb-true (length (fields l)) (length cs) (and_parts (filled (fields l)) (eqb (length (fields l)) (length cs)) b.whole).1 in
     record {
       here = record { left = b.left; line = b.line; field = b.field };
-      goes_on = ap (λ p. cond (not p) (Some (fault reason.FieldCount Reader at 0)) (first (cell_checks ns cs at 0 0 (fields l)))) b.whole;
+      goes_on = ap (λ p. cond (not p) (Some (fault 4 Reader at 0)) (first (cell_checks ns cs at 0 0 (fields l)))) b.whole;
       room = omega (arith, many);
       short = omega (arith, many);
     }

@@ -2,7 +2,6 @@
 use Rattle.std.specs.Prelude.{ℕ, not, List, [], ◌∷◌}
 use Rattle.faults.specs.Faults.{fault}
 use Rattle.faults.specs.declared.layer.Layer.TheVariants.{Server}
-use Rattle.faults.specs.declared.reason.Reason.TheVariants as reason
 use Rattle.cells.specs.Bytes.{well}
 use Rattle.cells.specs.Checks.{Check, bad}
 use Rattle.headings.specs.declared.table.Table.TheVariants.{Goal}
@@ -12,11 +11,11 @@ use Rattle.sheets.specs.Pages.{Entry}
 -- On line 2 they are the `goal_checks` of a sheet.
 abbrev pub goal_line_checks : ℕ → List ℕ → List Check
 goal_line_checks line l =
-    bad (missing l) reason.Heading line 0
-    ∷ bad (not (well l)) reason.ForeignByte line 0
-    ∷ bad (empty l) reason.Heading line 0
+    bad (missing l) 3 line 0
+    ∷ bad (not (well l)) 2 line 0
+    ∷ bad (empty l) 3 line 0
     ∷ value_checks [] Goal line l
 
 -- The server's settings.
 abbrev pub server_checks : ℕ → Entry → List Check
-server_checks line e = record { broken = not (legal_server e); told = fault reason.Settings Server line 0 } ∷ []
+server_checks line e = record { broken = not (legal_server e); told = fault 10 Server line 0 } ∷ []

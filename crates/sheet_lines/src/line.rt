@@ -1,5 +1,6 @@
 ghost use Rattle.std.specs.Prelude.{◌≡◌, true, not, [], ◌∷◌};
-ghost use Rattle.faults.specs.declared.reason.Reason.TheVariants.{ForeignByte, Heading, FieldCount};
+ghost use Rattle.faults.specs.Faults.{refusal};
+ghost use Rattle.faults.specs.declared.layer.Layer.TheVariants.{Reader as AtReader};
 ghost use Rattle.cells.specs.Bytes.{well, parted};
 ghost use Rattle.cells.specs.Checks.{bad, Meets};
 ghost use Rattle.sheets.specs.Checks.{empty, missing};
@@ -22,7 +23,7 @@ pub struct Line<'a> {
 impl<'a> Line<'a> {
     /// Refuses the line as a whole, unless what has to hold of it does.
     pub fn must(self, holds: bool, reason: Reason) -> Result<(), Fault>
-        ensures { Meets result (bad (not holds) reason self.entry.number 0 ∷ []) (λ _. holds ≡ true) }
+        ensures { Meets result (record { broken = not holds; told = refusal reason AtReader self.entry.number 0 } ∷ []) (λ _. holds ≡ true) }
     {
         if holds {
             Ok(())
@@ -41,7 +42,7 @@ impl<'a> Line<'a> {
     /// Refuses a line that is not there, or has other bytes than those of the format and an end.
     // No bytes are tested for, though a reader of a text never meets such a line: the clauses of the calls that use this speak of any line.
     pub(crate) fn must_be_whole(self) -> Result<(), Fault>
-        ensures { Meets result (bad (missing self.entry.text.now) Heading self.entry.number 0 ∷ bad (not (well self.entry.text.now)) ForeignByte self.entry.number 0 ∷ []) (λ _. well self.entry.text.now ≡ true) }
+        ensures { Meets result (bad (missing self.entry.text.now) 3 self.entry.number 0 ∷ bad (not (well self.entry.text.now)) 2 self.entry.number 0 ∷ []) (λ _. well self.entry.text.now ≡ true) }
     {
         self.must(!self.text.is_empty(), Reason::Heading)?;
         self.must(is_well(self.text), Reason::ForeignByte)
@@ -49,7 +50,7 @@ impl<'a> Line<'a> {
 
     /// Refuses a line that is not whole, or is not the one that has to stand here.
     pub(crate) fn must_be_given(self, is_given: bool) -> Result<(), Fault>
-        ensures { Meets result (bad (missing self.entry.text.now) Heading self.entry.number 0 ∷ bad (not (well self.entry.text.now)) ForeignByte self.entry.number 0 ∷ bad (not is_given) Heading self.entry.number 0 ∷ []) (λ _. Unit {0}) }
+        ensures { Meets result (bad (missing self.entry.text.now) 3 self.entry.number 0 ∷ bad (not (well self.entry.text.now)) 2 self.entry.number 0 ∷ bad (not is_given) 3 self.entry.number 0 ∷ []) (λ _. Unit {0}) }
     {
         self.must_be_whole()?;
         self.must(is_given, Reason::Heading)
@@ -57,7 +58,7 @@ impl<'a> Line<'a> {
 
     /// The values of a line that has `n` fields.
     pub(crate) fn values(self, n: usize) -> Result<Values<'a>, Fault>
-        ensures { Meets result (bad (not (parted n self.entry.text.now)) FieldCount self.entry.number 0 ∷ []) (λ v. Begins n self.entry.text.now self.entry.number v.fields) }
+        ensures { Meets result (bad (not (parted n self.entry.text.now)) 4 self.entry.number 0 ∷ []) (λ v. Begins n self.entry.text.now self.entry.number v.fields) }
     {
         self.must(is_parted(self.text, n), Reason::FieldCount)?;
         Ok(Values {

@@ -21,7 +21,6 @@ use Rattle.sheets.proofs.Cells.{LineBack, line_is, decimal_cell, parted_at, numb
 use Rattle.sheets.proofs.EntryLines.{Fine, entry_back, entry_same, entry_clear}
 use Rattle.sheets.proofs.EdgeLines.{Joins, edge_back, edge_same, edge_clear}
 use Rattle.sheets.proofs.Orders.{entries_fine, edges_join}
-use Rattle.faults.specs.declared.reason.Reason.TheVariants as reason
 
 -- The goal.
 
@@ -42,13 +41,13 @@ name_back : (e : Entry) → Fine e → field 0 (entry_line e) ≡ e.name
 name_back e f = ap (λ x. get_or x 0 []) (entry_back e f).cut
 
 entries_clear : (ns : List (List ℕ)) (es : List Entry) (rest : List (List ℕ)) → AllByRecursion Fine es → Apart ns (names es) → length ns + length es ≤ 16 → 0 < length ns + length es → first (entries_checks ns (map entry_line es ++ (end ∷ rest))) ≡ None
-entries_clear ns [] rest f a few some = all_none (bad (eqb (length ns) 0) reason.Count (5 + length ns) 0 ∷ []) (ne_eqb (length ns) 0 (λ z. omega arith), tt)
+entries_clear ns [] rest f a few some = all_none (bad (eqb (length ns) 0) 9 (5 + length ns) 0 ∷ []) (ne_eqb (length ns) 0 (λ z. omega arith), tt)
 entries_clear ns (e ∷ es) rest f a few some =
     let l = entry_line e in
     let ls = map entry_line es ++ (end ∷ rest) in
     let n = length_push ns e.name in
     let more = entries_checks (ns ++ field 0 l ∷ []) ls in
-    ap (λ b. first (cond b (bad (eqb (length ns) 0) reason.Count (5 + length ns) 0 ∷ []) (entry_checks ns (5 + length ns) l ++ more))) (entry_back e f.0).full
+    ap (λ b. first (cond b (bad (eqb (length ns) 0) 9 (5 + length ns) 0 ∷ []) (entry_checks ns (5 + length ns) l ++ more))) (entry_back e f.0).full
     ∙ none_both (entry_checks ns (5 + length ns) l) more
     (entry_clear ns (5 + length ns) e f.0 a.0 (omega arith))
     (ap (λ m. first (entries_checks (ns ++ m ∷ []) ls)) (name_back e f.0) ∙ entries_clear (ns ++ e.name ∷ []) es rest f.1 a.1 (omega (arith, n)) (omega (arith, n)))
@@ -138,11 +137,11 @@ lines_clear p r size some room =
     let E = entries_checks [] (map entry_line p.tasks ++ (end ∷ rest)) in
     let F = exact_checks (heading table.Edges) (6 + length (names_in ls)) (get_or (edge_table ls) 0 []) in
     let G = edges_checks (names_in ls) 0 (drop 1 (edge_table ls)) in
-    let size_is : first (bad (eqb size 0 || leb 8193 size) reason.SheetSize 0 0 ∷ []) ≡ None = all_none (bad (eqb size 0 || leb 8193 size) reason.SheetSize 0 0 ∷ []) (or_from (eqb size 0) (leb 8193 size) (ne_eqb size 0 (λ z. omega arith)) (lt-leb 8193 size (omega arith)), tt) in
+    let size_is : first (bad (eqb size 0 || leb 8193 size) 1 0 0 ∷ []) ≡ None = all_none (bad (eqb size 0 || leb 8193 size) 1 0 0 ∷ []) (or_from (eqb size 0) (leb 8193 size) (ne_eqb size 0 (λ z. omega arith)) (lt-leb 8193 size (omega arith)), tt) in
     let tasks = entries_clear [] p.tasks rest r.fine (apart [] ns o.distinct) (omega (arith, n, o.counts.few)) (omega (arith, n, o.counts.some)) in
     let head : first F ≡ None = ap (λ x. first (exact_checks (heading table.Edges) (6 + length (names_in ls)) (get_or x 0 []))) c.table_is in
     let arcs : first G ≡ None = (λ i. first (edges_checks (c.names_are i) 0 (drop 1 (c.table_is i)))) ∙ edges_clear ns 0 p.edges r.named r.joins (omega (arith, o.counts.sparse)) in
-    none_both (bad (eqb size 0 || leb 8193 size) reason.SheetSize 0 0 ∷ []) (A ++ (B ++ (C ++ (D ++ (E ++ (F ++ G)))))) size_is
+    none_both (bad (eqb size 0 || leb 8193 size) 1 0 0 ∷ []) (A ++ (B ++ (C ++ (D ++ (E ++ (F ++ G)))))) size_is
     (none_both A (B ++ (C ++ (D ++ (E ++ (F ++ G))))) refl
     (none_both B (C ++ (D ++ (E ++ (F ++ G)))) (goal_clear p.goal o.ranges.least o.ranges.most)
     (none_both C (D ++ (E ++ (F ++ G))) refl

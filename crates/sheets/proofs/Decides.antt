@@ -4,7 +4,6 @@ use Rattle.std.proofs.lemmas.Bool.{cases_order}
 use Rattle.faults.specs.Faults.{fault}
 use Rattle.faults.specs.declared.fault.Fault.{Fault}
 use Rattle.faults.specs.declared.layer.Layer.TheVariants as layer
-use Rattle.faults.specs.declared.reason.Reason.TheVariants as reason
 use Rattle.cells.specs.Checks.{First, first}
 use Rattle.cells.proofs.Firsts.{first_from, some_none, some_same}
 use Rattle.graph.specs.Edges.{Topmost, NoRing}
@@ -54,13 +53,13 @@ one_fault t f g (in_line k) (figure p v is o none a e) = absurd (no_fault t p f 
 one_fault t f g (ring p v is o top e) (in_line k) = absurd (no_fault t p g is o k)
 one_fault t f g (ring p v is o top e) (ring q w also u pot d) =
     let same = one_topmost q.edges (length q.tasks) v w (subst (λ x. Topmost x.edges (length x.tasks) v) (same_page t p q is o also u) top) pot in
-    e ∙ ap (λ n. fault reason.TokenFreeRing layer.Graph (line_of origin.Sheet n) 0) same ∙ sym d
+    e ∙ ap (λ n. fault 11 layer.Graph (line_of origin.Sheet n) 0) same ∙ sym d
 one_fault t f g (ring p v is o top e) (figure q w also u none a d) = absurd (ring_or_not t q p v also u is o none top)
 one_fault t f g (figure p v is o none a e) (in_line k) = absurd (no_fault t p g is o k)
 one_fault t f g (figure p v is o none a e) (ring q w also u top d) = absurd (ring_or_not t p q w is o also u none top)
 one_fault t f g (figure p v is o none a e) (figure q w also u nil b d) =
     let same = one_above q.tasks v w (subst (λ x. FirstAbove x.tasks v) (same_page t p q is o also u) a) b in
-    e ∙ ap (λ n. fault reason.Ceiling layer.Graph (line_of origin.Sheet n) 0) same ∙ sym d
+    e ∙ ap (λ n. fault 12 layer.Graph (line_of origin.Sheet n) 0) same ∙ sym d
 
 one_sheet : (t : List ℕ) (p q : Page) → Written t p → Written t q → p ≡ q
 one_sheet t p q w u = same_page t p q w.is w.legal.in_order u.is u.legal.in_order

@@ -21,7 +21,6 @@ use Rattle.sheets.proofs.Cells.{cells_are, fields_count, number_is}
 use Rattle.sheets.proofs.EntryLines.{Fine, entry_read}
 use Rattle.sheets.proofs.EdgeLines.{Joins, edge_read}
 use Rattle.sheets.proofs.Orders.{Parts, in_order}
-use Rattle.faults.specs.declared.reason.Reason.TheVariants as reason
 
 exact_line : (wanted : List ℕ) (line : ℕ) (l : List ℕ) → first (exact_checks wanted line l) ≡ None → wanted ≡ l
 exact_line wanted line l e = sym ((bytes_eq-Decides l wanted).0 (not-false (bytes_eq l wanted) (passed (exact_checks wanted line l) e).1.1.0))
@@ -51,10 +50,10 @@ pub record Entries (ns ls up past : List (List ℕ)) : Type 0 where
 
 entries_step : (b : Bool) (ns : List (List ℕ)) (l : List ℕ) (ls : List (List ℕ)) → (b ≡ true → l ≡ end)
     → (first (entries_checks (ns ++ field 0 l ∷ []) ls) ≡ None → Entries (ns ++ field 0 l ∷ []) ls (up_to_empty ls) (past_empty ls))
-    → first (cond b (bad (eqb (length ns) 0) reason.Count (5 + length ns) 0 ∷ []) (entry_checks ns (5 + length ns) l ++ entries_checks (ns ++ field 0 l ∷ []) ls)) ≡ None
+    → first (cond b (bad (eqb (length ns) 0) 9 (5 + length ns) 0 ∷ []) (entry_checks ns (5 + length ns) l ++ entries_checks (ns ++ field 0 l ∷ []) ls)) ≡ None
     → Entries ns (l ∷ ls) (cond b [] (l ∷ up_to_empty ls)) (cond b ls (past_empty ls))
 entries_step true ns l ls same k e =
-    let some = eqb-false (length ns) 0 (passed (bad (eqb (length ns) 0) reason.Count (5 + length ns) 0 ∷ []) e).0 in
+    let some = eqb-false (length ns) 0 (passed (bad (eqb (length ns) 0) 9 (5 + length ns) 0 ∷ []) e).0 in
     record { split = ap (λ x. x ∷ ls) (sym (same refl)); is = refl; fine = tt; apart = tt; most = λ h. omega arith; some = omega arith }
 entries_step false ns l ls same k e =
     let p = none_parts (entry_checks ns (5 + length ns) l) (entries_checks (ns ++ field 0 l ∷ []) ls) e in
@@ -146,7 +145,7 @@ text_read size ls e =
     let E = entries_checks [] (drop 4 ls) in
     let F = exact_checks (heading table.Edges) (6 + length (names_in ls)) (get_or (edge_table ls) 0 []) in
     let G = edges_checks (names_in ls) 0 (drop 1 (edge_table ls)) in
-    let k0 = clear (bad (eqb size 0 || leb 8193 size) reason.SheetSize 0 0) (A ++ (B ++ (C ++ (D ++ (E ++ (F ++ G)))))) e in
+    let k0 = clear (bad (eqb size 0 || leb 8193 size) 1 0 0) (A ++ (B ++ (C ++ (D ++ (E ++ (F ++ G)))))) e in
     let k1 = none_parts A (B ++ (C ++ (D ++ (E ++ (F ++ G))))) k0.1 in
     let k2 = none_parts B (C ++ (D ++ (E ++ (F ++ G)))) k1.1 in
     let k3 = none_parts C (D ++ (E ++ (F ++ G))) k2.1 in

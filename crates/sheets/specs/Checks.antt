@@ -3,7 +3,6 @@ use Rattle.std.specs.Prelude.{ℕ, ◌+◌, Bool, true, false, cond, not, ◌&&�
 use Rattle.std.specs.Str.{bytes_eq}
 use Rattle.faults.specs.Faults.{fault}
 use Rattle.faults.specs.declared.layer.Layer.TheVariants as layer
-use Rattle.faults.specs.declared.reason.Reason.TheVariants as reason
 use Rattle.lexer.specs.Text.{lines, fields, end}
 use Rattle.cells.specs.Bytes.{well, parted, field}
 use Rattle.cells.specs.Values.{number, named, value, a_kind, kind_of}
@@ -34,17 +33,17 @@ index_of (m ∷ ms) n = cond (bytes_eq m n) 0 (index_of ms n + 1)
 -- One field f, at a line and field.
 
 abbrev pub number_checks : ℕ → ℕ → ℕ → ℕ → List ℕ → List Check
-number_checks low high line on f = bad (not (number low high f)) reason.NumberRange line on ∷ []
+number_checks low high line on f = bad (not (number low high f)) 5 line on ∷ []
 
 abbrev pub name_checks : ℕ → ℕ → List ℕ → List Check
-name_checks line on f = bad (not (named f)) reason.Word line on ∷ []
+name_checks line on f = bad (not (named f)) 6 line on ∷ []
 
 abbrev pub kind_checks : ℕ → ℕ → List ℕ → List Check
-kind_checks line on f = bad (not (a_kind f)) reason.Word line on ∷ []
+kind_checks line on f = bad (not (a_kind f)) 6 line on ∷ []
 
 -- the name of one of the tasks, whose names are ns
 abbrev pub task_checks : List (List ℕ) → ℕ → ℕ → List ℕ → List Check
-task_checks ns line on f = bad (not (named f)) reason.Word line on ∷ bad (not (taken ns f)) reason.UnknownTask line on ∷ []
+task_checks ns line on f = bad (not (named f)) 6 line on ∷ bad (not (taken ns f)) 8 line on ∷ []
 
 -- What each column holds; ns are the names of the tasks.
 abbrev pub column_checks : List (List ℕ) → Column → ℕ → ℕ → List ℕ → List Check
@@ -70,7 +69,7 @@ cell_checks ns (c ∷ cs) line before k fs = column_checks ns c line (before + (
 
 -- A value line of a table: how many fields, and then each.
 abbrev pub value_checks : List (List ℕ) → Table → ℕ → List ℕ → List Check
-value_checks ns t line l = bad (not (parted (length (table_columns t)) l)) reason.FieldCount line 0 ∷ cell_checks ns (table_columns t) line 0 0 (fields l)
+value_checks ns t line l = bad (not (parted (length (table_columns t)) l)) 4 line 0 ∷ cell_checks ns (table_columns t) line 0 0 (fields l)
 
 -- The server's settings of a task.
 
@@ -107,39 +106,39 @@ empty l = bytes_eq l end
 -- A line that has to be just so.
 abbrev pub exact_checks : List ℕ → ℕ → List ℕ → List Check
 exact_checks wanted line l =
-    bad (missing l) reason.Heading line 0
-    ∷ bad (not (well l)) reason.ForeignByte line 0
-    ∷ bad (not (bytes_eq l wanted)) reason.Heading line 0
+    bad (missing l) 3 line 0
+    ∷ bad (not (well l)) 2 line 0
+    ∷ bad (not (bytes_eq l wanted)) 3 line 0
     ∷ []
 
 abbrev pub goal_checks : List ℕ → List Check
 goal_checks l =
-    bad (missing l) reason.Heading 2 0
-    ∷ bad (not (well l)) reason.ForeignByte 2 0
-    ∷ bad (empty l) reason.Heading 2 0
+    bad (missing l) 3 2 0
+    ∷ bad (not (well l)) 2 2 0
+    ∷ bad (empty l) 3 2 0
     ∷ value_checks [] table.Goal 2 l
 
 -- A task's line, below those of the tasks whose names are ns.
 abbrev pub entry_checks : List (List ℕ) → ℕ → List ℕ → List Check
 entry_checks ns line l =
-    bad (not (well l)) reason.ForeignByte line 0
-    ∷ bad (nat_le 16 (length ns)) reason.Count line 0
+    bad (not (well l)) 2 line 0
+    ∷ bad (nat_le 16 (length ns)) 9 line 0
     ∷ (value_checks ns table.Tasks line l
-    ++ (bad (taken ns (field 0 l)) reason.NameTaken line 1
-    ∷ record { broken = not (legal_server (entry_of l)); told = fault reason.Settings layer.Server line 0 }
+    ++ (bad (taken ns (field 0 l)) 7 line 1
+    ∷ record { broken = not (legal_server (entry_of l)); told = fault 10 layer.Server line 0 }
     ∷ []))
 
 -- The lines below the task heading, up to the empty line that ends the table.
 abbrev pub entries_checks : List (List ℕ) → List (List ℕ) → List Check
-entries_checks ns [] = bad true reason.Heading (5 + length ns) 0 ∷ []
-entries_checks ns (l ∷ ls) = cond (empty l) (bad (length ns == 0) reason.Count (5 + length ns) 0 ∷ []) (entry_checks ns (5 + length ns) l ++ entries_checks (ns ++ field 0 l ∷ []) ls)
+entries_checks ns [] = bad true 3 (5 + length ns) 0 ∷ []
+entries_checks ns (l ∷ ls) = cond (empty l) (bad (length ns == 0) 9 (5 + length ns) 0 ∷ []) (entry_checks ns (5 + length ns) l ++ entries_checks (ns ++ field 0 l ∷ []) ls)
 
 -- An edge's line, below k others; the tasks' names are ns.
 abbrev pub edge_checks : List (List ℕ) → ℕ → ℕ → List ℕ → List Check
 edge_checks ns k line l =
-    bad (not (well l)) reason.ForeignByte line 0
-    ∷ bad (empty l) reason.Heading line 0
-    ∷ bad (nat_le 48 k) reason.Count line 0
+    bad (not (well l)) 2 line 0
+    ∷ bad (empty l) 3 line 0
+    ∷ bad (nat_le 48 k) 9 line 0
     ∷ value_checks ns table.Edges line l
 
 -- The lines below the edges' heading, from the k-th on.
@@ -171,7 +170,7 @@ names_in ls = map (field 0) (entry_lines ls)
 -- The checks of a text of this size and these lines.
 abbrev pub text_checks : ℕ → List (List ℕ) → List Check
 text_checks size ls =
-    bad (size == 0 || nat_le 8193 size) reason.SheetSize 0 0
+    bad (size == 0 || nat_le 8193 size) 1 0 0
     ∷ (exact_checks (heading table.Goal) 1 (slice_index_or ls 0 [])
     ++ (goal_checks (slice_index_or ls 1 [])
     ++ (exact_checks end 3 (slice_index_or ls 2 [])

@@ -3,7 +3,6 @@ use Rattle.std.specs.Prelude.{◌≡◌, ℕ, ◌<◌, List, length}
 use Rattle.faults.specs.Faults.{fault}
 use Rattle.faults.specs.declared.fault.Fault.{Fault}
 use Rattle.faults.specs.declared.layer.Layer.TheVariants as layer
-use Rattle.faults.specs.declared.reason.Reason.TheVariants as reason
 use Rattle.cells.specs.Checks.{First}
 use Rattle.graph.specs.Edges.{NoRing, Topmost}
 use Rattle.graph.specs.Lines.{line_of}
@@ -26,8 +25,8 @@ pub record FirstAbove (ts : List Entry) (v : ℕ) : Type 0 where
 -- Fault f is told of the text: the first of its lines that is not in order; where all are, the topmost task on a ring without tokens; where there is none, the first task with a figure above the ceiling.
 pub data Refused (t : List ℕ) (f : Fault) : Type 0 where
   in_line : First (checks t) f → Refused t f
-  ring : (p : Page) (v : ℕ) → t ≡ write p → InOrder p → Topmost p.edges (length p.tasks) v → f ≡ fault reason.TokenFreeRing layer.Graph (line_of Sheet v) 0 → Refused t f
-  figure : (p : Page) (v : ℕ) → t ≡ write p → InOrder p → NoRing p.edges (length p.tasks) → FirstAbove p.tasks v → f ≡ fault reason.Ceiling layer.Graph (line_of Sheet v) 0 → Refused t f
+  ring : (p : Page) (v : ℕ) → t ≡ write p → InOrder p → Topmost p.edges (length p.tasks) v → f ≡ fault 11 layer.Graph (line_of Sheet v) 0 → Refused t f
+  figure : (p : Page) (v : ℕ) → t ≡ write p → InOrder p → NoRing p.edges (length p.tasks) → FirstAbove p.tasks v → f ≡ fault 12 layer.Graph (line_of Sheet v) 0 → Refused t f
 
 -- No text has two meanings: it is not both a legal sheet's and refused, nor two sheets', nor refused by two faults.
 pub record OneMeaning : Type 0 where

@@ -3,7 +3,6 @@ use Rattle.std.proofs.Common.{◌≡◌, ◌+◌, ◌<◌, Bool, true, false, no
 use Rattle.std.proofs.lemmas.List.{length_push}
 use Rattle.cells.specs.Checks.{bad, first}
 use Rattle.cells.proofs.Firsts.{first_within, first_after}
-use Rattle.faults.specs.declared.reason.Reason.TheVariants as reason
 use Rattle.headings.specs.declared.table.Table.TheVariants as table
 use Rattle.headings.specs.Tables.{heading}
 use Rattle.sheets.specs.Pages.{Entry, names}
@@ -74,7 +73,7 @@ returns-then-is_gap c =
     let k = c.in_ok-line.ensures in
     let number = c.loop-line.invariant.number in
     let end = closed c.args.entries.now (drop 1 (left c.args.lines.now)) es c.in_ok-line.line.text.now _ c.in_ok-line.line.number (now h.In_ok-line) (at h.In_ok-line) (sym c.if-is_gap.ensures) in
-    let count = ap (λ b. first (bad b reason.Count c.in_ok-line.line.number 0 ∷ [])) (sym c.is_empty.ensures ∙ twice _) in
+    let count = ap (λ b. first (bad b 9 c.in_ok-line.line.number 0 ∷ [])) (sym c.is_empty.ensures ∙ twice _) in
     handed_back c.must.result _ _ _ _ (headed h.In_ok-heading ∙ end.decide ∙ count) (λ _ _. (end.say, record { lines = end.past; number = omega (arith, few, number, k.next) })) c.must.ensures
 
 pub returns-in_err-served : goal.returns-in_err-served
