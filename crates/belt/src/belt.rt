@@ -7,7 +7,7 @@ use faults::reason::Reason;
 use std::marker::Model;
 
 /// A queue over slots that the caller lends: it hands out first what was put in first.
-// The slots are a ring: `len` of them hold items, the oldest at `head`, round to the one before it.
+// A ring by hand and no `VecDeque`: the slots are the caller's, so that a belt never allocates. `len` of them hold items, the oldest at `head`, round to the one before it.
 #[derive(Drop)]
 pub struct Belt<'a, T> {
     slots: &'a mut [Option<T>],

@@ -3,7 +3,7 @@ ghost use Rattle.std.specs.Prelude.{◌≡◌};
 use faults::fault::Fault;
 
 /// An item that found no slot, with the refusal.
-// The fault stands beside the item, though it is always the same, so that a `?` can carry it upward as every refusal is.
+// The fault stands beside the item, though it is always the same: a refusal tells its own number and layer, whoever reads it.
 #[derive(PartialEq, Eq, Debug, Drop)]
 pub struct Returned<T> {
     pub fault: Fault,

@@ -1,4 +1,3 @@
-use faults::fault::Fault;
 use faults::layer::Layer;
 use faults::reason::Reason;
 use graph::graph::Graph;
@@ -27,6 +26,9 @@ fn parts(
     Ok((all, list))
 }
 
+// A refusal's number, layer, line and field.
+type Told = (u8, Layer, u32, u32);
+
 // By what the graph of a sheet is refused, none where it is accepted.
 fn refusal(
     heap: Global,
@@ -34,14 +36,15 @@ fn refusal(
     tasks: usize,
     time: u64,
     edges: &[(usize, usize, u64)],
-) -> Result<Option<Fault>, AllocError> {
+) -> Result<Option<Told>, AllocError> {
     let (tasks, edges) = parts(heap, tasks, time, edges)?;
-    Ok(Graph::new(goal, tasks, edges, Origin::Sheet).err())
+    let refused = Graph::new(goal, tasks, edges, Origin::Sheet).err();
+    Ok(refused.map(|fault| (fault.reason.number(), fault.layer, fault.line, fault.field)))
 }
 
 // What a graph is refused by.
-fn by(reason: Reason, line: u32) -> Option<Fault> {
-    Some(Layer::Graph.refuses(reason, line, 0))
+fn by(number: u8, line: u32) -> Option<Told> {
+    Some((number, Layer::Graph, line, 0))
 }
 
 #[test]
@@ -49,17 +52,17 @@ fn counts_ranges_ends(rt: HostRuntime) -> Result<(), Fail> {
     let most: &[(usize, usize, u64)] = &[(0, 1, 1); 48];
     let over: &[(usize, usize, u64)] = &[(0, 1, 1); 49];
     for (goal, tasks, time, edges, expected) in [
-        (32, 0, 6, &[][..], by(Reason::Count, 0)),
+        (32, 0, 6, &[][..], by(9, 0)),
         (32, 16, 6, &[][..], None),
-        (32, 17, 6, &[][..], by(Reason::Count, 0)),
+        (32, 17, 6, &[][..], by(9, 0)),
         (32, 2, 6, most, None),
-        (32, 2, 6, over, by(Reason::Count, 0)),
-        (0, 2, 6, &[][..], by(Reason::NumberRange, 0)),
-        (1_000_000_000, 2, 6, &[][..], by(Reason::NumberRange, 0)),
-        (32, 2, 65_536, &[][..], by(Reason::NumberRange, 0)),
-        (32, 2, 0, &[][..], by(Reason::NumberRange, 0)),
-        (32, 2, 6, &[(0, 1, 256)][..], by(Reason::NumberRange, 0)),
-        (32, 2, 6, &[(0, 2, 1)][..], by(Reason::UnknownTask, 0)),
+        (32, 2, 6, over, by(9, 0)),
+        (0, 2, 6, &[][..], by(5, 0)),
+        (1_000_000_000, 2, 6, &[][..], by(5, 0)),
+        (32, 2, 65_536, &[][..], by(5, 0)),
+        (32, 2, 0, &[][..], by(5, 0)),
+        (32, 2, 6, &[(0, 1, 256)][..], by(5, 0)),
+        (32, 2, 6, &[(0, 2, 1)][..], by(8, 0)),
     ] {
         assert_eq!(rt;
             refusal(rt.alloc(), goal, tasks, time, edges)?,
@@ -74,13 +77,13 @@ fn counts_ranges_ends(rt: HostRuntime) -> Result<(), Fail> {
 fn topmost_on_a_ring(rt: HostRuntime) -> Result<(), Fail> {
     for (tasks, edges, expected) in [
         (2, &[(0, 1, 0), (1, 0, 1)][..], None),
-        (2, &[(0, 1, 0), (1, 0, 0)][..], by(Reason::TokenFreeRing, 5)),
+        (2, &[(0, 1, 0), (1, 0, 0)][..], by(11, 5)),
         (
             4,
             &[(0, 1, 0), (1, 3, 0), (3, 2, 0), (2, 1, 0)][..],
-            by(Reason::TokenFreeRing, 6),
+            by(11, 6),
         ),
-        (3, &[(0, 1, 0), (2, 2, 0)][..], by(Reason::TokenFreeRing, 7)),
+        (3, &[(0, 1, 0), (2, 2, 0)][..], by(11, 7)),
         (4, &[(3, 2, 0), (2, 1, 0), (1, 0, 0), (3, 0, 0)][..], None),
     ] {
         assert_eq!(rt;

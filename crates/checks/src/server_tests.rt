@@ -69,7 +69,7 @@ fn worked_figures(rt: HostRuntime) -> Result<(), Fail> {
     );
     let inner = Inner::new(fixed, settings(3, 1, 0), 0)?;
     tells(&rt, &inner, &[(1, 9), (2, 18)], 11, &[(1, 8)]);
-    let own = Own::new(Settings::WHOLE, 0)?;
+    let own = Own::new(settings(1, 1, 0), 0)?;
     tells(
         &rt,
         &own,
@@ -110,7 +110,7 @@ fn takes(rt: &impl Abort, s: Settings, own: bool, fixed: bool, float: bool) {
 
 #[test]
 fn settings_refused(rt: HostRuntime) {
-    takes(&rt, Settings::WHOLE, true, true, true);
+    takes(&rt, settings(1, 1, 0), true, true, true);
     takes(&rt, settings(10, 4, 0), false, true, true);
     takes(&rt, settings(10, 4, 9), false, true, false);
     takes(&rt, settings(10, 4, 10), false, false, false);
@@ -118,7 +118,7 @@ fn settings_refused(rt: HostRuntime) {
     takes(&rt, settings(65_536, 1, 0), false, false, false);
     takes(&rt, settings(4, 5, 0), false, false, false);
     takes(&rt, settings(4, 0, 0), false, false, false);
-    takes(&rt, Settings::NONE, false, false, false);
+    takes(&rt, settings(0, 0, 0), false, false, false);
 }
 
 // In the marks '#' is granted.
@@ -196,7 +196,7 @@ fn stack(kind: Kind, base: Settings, layer: Settings) -> Result<Stack<AnyKind>, 
 fn rack_by_place(rt: HostRuntime) -> Result<(), Fail> {
     let mut servers = Vec::new(rt.alloc());
     servers.push(stack(Kind::Fixed, settings(10, 4, 3), settings(3, 1, 0))?)?;
-    servers.push(stack(Kind::Float, settings(10, 4, 0), Settings::NONE)?)?;
+    servers.push(stack(Kind::Float, settings(10, 4, 0), settings(0, 0, 0))?)?;
     let mut rack = SideBySide {
         first: One { server: Own },
         second: Row { servers },

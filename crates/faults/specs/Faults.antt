@@ -11,7 +11,7 @@ use Rattle.faults.specs.declared.reason.Reason.{Reason}
 abbrev pub refusal : Reason → Layer → ℕ → ℕ → Fault
 refusal reason layer line field = record { reason = reason; layer = layer; line = line; field = field }
 
--- by the number that docs/refusals.md gives the reason
+-- By number, as users know refusals and docs/refusals.md lists them: a contract holds the code to that page, not to its own names.
 abbrev pub fault : ℕ → Layer → ℕ → ℕ → Fault
 fault number = refusal (reason_by number)
 

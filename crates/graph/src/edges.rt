@@ -62,7 +62,7 @@ impl<'a> Edges<'a> {
     }
 
     /// The first task that lies on a ring whose edges hold no token.
-    // A nested search left by a label, the form that this project keeps for it.
+    // A nested search left by a label: docs/DECISIONS.md names it as this search's form.
     pub(crate) fn first_on_ring(&self) -> Option<usize>
         ensures { MatchOption result (NoRing self.now.list.now self.now.tasks) (Topmost self.now.list.now self.now.tasks) }
     {

@@ -1,8 +1,10 @@
 ghost use Rattle.std.specs.Prelude.{◌≡◌, ◌<◌};
 ghost use Rattle.graph.specs.Lines.{line_of};
 
+use faults::fault::LineNumber;
+
 /// The line on which a sheet's first task stands.
-pub const FIRST_TASK_LINE: u32 = 5;
+pub const FIRST_TASK_LINE: LineNumber = 5;
 
 /// Where a graph comes from: built by calls, or read from a sheet, whose first task stands on line 5 and each other one line below.
 #[derive(Clone, Copy, PartialEq, Eq, Debug)]
@@ -12,8 +14,8 @@ pub enum Origin {
 }
 
 impl Origin {
-    /// The line on which a task stands, 0 without a sheet.
-    pub(crate) fn line(self, task: usize) -> u32
+    /// The line on which a task stands.
+    pub(crate) fn line(self, task: usize) -> LineNumber
         requires { task < 16 }
         ensures { result ≡ line_of self task }
     {

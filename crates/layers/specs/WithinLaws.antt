@@ -1,5 +1,5 @@
 -- One service kept within another keeps the laws.
-use Rattle.std.proofs.Common.{◌≡◌, ◌+◌, ◌-◌, Bool, true, false, ap, ◌∙◌, arith}
+use Rattle.std.proofs.Common.{◌≡◌, ◌≤◌, ℕ, ◌+◌, ◌-◌, Bool, true, false, ap, ◌∙◌, arith}
 use Rattle.servers.specs.Service.{Service, Laws, Sooner, Ticks}
 use Rattle.servers.specs.FixedService.{fixed_service}
 use Rattle.layers.specs.InnerService.{within, Layered, inner_service, InnerSteps}
@@ -50,6 +50,10 @@ within_ticks b b' s s' g bl sl t u = record {
   same_lead = omega (arith, t.same_lead, t.same_pace s'.lead, ap b.pace u.same_lead);
   same_pace = λ n. t.same_pace (s'.pace n) ∙ ap b.pace (u.same_pace n);
 }
+
+-- n grants never come before n ticks.
+pub worst_least : (p : Service) → Laws p → (n : ℕ) → n ≤ p.worst n
+worst_least p l n = omega (arith, l.wait_least n, l.wait_most n)
 
 -- A slice layered over a service, on a tick that is granted below or not.
 pub layered_ticks : (b b' : Service) (x y : Fixed) (low c g : Bool) → Laws b' → Ticks b low b' → Layered low x c g y → Ticks (within b (fixed_service x)) g (within b' (fixed_service y))

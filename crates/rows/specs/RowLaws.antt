@@ -1,15 +1,24 @@
 -- What stands at a place of a row, and the laws that a row keeps where each server does.
-use Rattle.std.specs.Prelude.{◌≡◌, ℕ, zero, suc, ◌<◌, ◌≢◌, Bool, List, [], ◌∷◌, map, length, get_or, slice_index_or, slice_set}
+use Rattle.std.specs.Prelude.{◌≡◌, ℕ, zero, suc, ◌<◌, ◌≢◌, Bool, List, [], ◌∷◌, map, length, get_or, Result, slice_index_or, slice_set}
 use Rattle.std.proofs.Common.{sym, ap, ◌∙◌, arith}
 use Rattle.std.proofs.lemmas.List.{get_or-map, map-set, length-map, get_or-set_same, get_or-set_other}
+use Rattle.faults.specs.declared.fault.Fault.{Fault}
+use Rattle.servers.specs.Figures.{Tells}
 use Rattle.servers.specs.Service.{Service, Laws, Ticks}
 use Rattle.servers.specs.OwnLaws.{own_laws}
+use Rattle.racks.specs.Places.{Asked}
 use Rattle.rows.specs.Rows.{row_service, none_there, RowSteps}
 
 module _ {S : Type 0} (service : S → Service) where
   -- at a place that holds x
   pub row_at : (xs : List S) (k : ℕ) (x : S) → k < length xs → x ≡ slice_index_or xs k x → row_service service xs k ≡ service x
   row_at xs k x h e = get_or-map service xs k x none_there h ∙ ap service (sym e)
+
+  -- a figure that the server at k tells is the one at place k
+  pub row_asks : (figure : Service → ℕ) (xs : List S) (k n : ℕ) (x : S) (r : Result ℕ Fault) → k < n → n ≡ length xs → x ≡ slice_index_or xs k x → Tells (figure (service x)) r → Asked n k (figure (row_service service xs k)) r
+  row_asks figure xs k n x r h l e t =
+      let at = row_at xs k x (omega arith) e in
+      record { missing = λ over. absurd (omega arith); there = λ _. rw at t }
 
   pub row_same : (xs : List S) (k : ℕ) (y : S) → k < length xs → row_service service (slice_set xs k y) k ≡ service y
   row_same xs k y h =

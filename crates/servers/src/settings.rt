@@ -11,6 +11,7 @@ pub const LONGEST_PERIOD: u64 = 65_535;
 
 /// What a planner writes of a server: `slice` ticks of every `period` are the task's, and `phase` ticks of the first period have passed at the start.
 /// The line where they stand is no part of them: a task's settings and its layer's stand on one line, and a server built by calls has none.
+// The makers are handed it beside them, a rule of the project: a server's refusal is told at its line.
 #[derive(Clone, Copy, PartialEq, Eq, Debug)]
 pub struct Settings {
     pub period: u64,
