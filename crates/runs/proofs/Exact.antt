@@ -1,5 +1,5 @@
 -- The bound is met at some phase.
-use Rattle.std.proofs.Common.{◌≡◌, ℕ, zero, suc, ◌+◌, ◌-◌, ◌*◌, ◌<◌, ◌≤◌, Bool, true, false, cond, ◌&&◌, eqb, ltb, ◌⊎◌, List, [], ◌∷◌, length, get_or, sym, refl, ap, ◌∙◌, subst, inl, inr, append-nil, arith}
+use Rattle.std.proofs.Common.{◌≡◌, ℕ, zero, suc, ◌+◌, ◌-◌, ◌*◌, ◌<◌, ◌≤◌, Bool, true, false, cond, ◌&&◌, eqb, ltb, ◌⊎◌, List, [], ◌∷◌, length, get_or, sym, refl, ap, ◌∙◌, subst, inl, inr, append-nil, None, arith}
 use Rattle.std.proofs.lemmas.Bool.Decides.{nat_tests}
 use Rattle.servers.specs.Slices.{wait_at, worst_of}
 use Rattle.servers.specs.FixedService.{Moves}
@@ -159,7 +159,7 @@ module _ (f : Fixed) (T : ℕ) (pos : 1 ≤ T) (slots : ℕ) where
       few = omega (arith, r.few);
     }
       where
-        ok : why (lone T) slots r.whole (arrive 0) ≡ 0
+        ok : why (lone T) slots r.whole (arrive 0) ≡ None
         ok = let few : r.whole.state.waiting 0 < 65535 = omega (arith, r.few, r.count) in grind (arith, nat_tests)
 
         by : (j : ℕ) → (m ≤ j) ⊎ (j < m) → j < m + 1 → (j < m → r.whole.state.arrivals.stamp 0 j ≡ get_or times j 0) →
@@ -189,7 +189,7 @@ module _ (f : Fixed) (T : ℕ) (pos : 1 ≤ T) (slots : ℕ) where
       few = omega (arith, r.few);
     }
       where
-        ok : why (lone T) slots (record { state = r.whole.state; belt = [] }) (tick (false ∷ [])) ≡ 0
+        ok : why (lone T) slots (record { state = r.whole.state; belt = [] }) (tick (false ∷ [])) ≡ None
         ok =
             let clk : r.whole.state.clock < 1000000000 = omega (arith, r.clock) in
             let fr : 1 ≤ slots - 0 = omega arith in

@@ -1,5 +1,5 @@
 -- A run over a rack, with the rack forgotten but for its waits.
-use Rattle.std.proofs.Common.{◌≡◌, ℕ, suc, ◌+◌, ◌<◌, ◌≤◌, Bool, true, false, cond, ◌&&◌, ltb, leb, ◌⊎◌, List, get_or, sym, refl, ap, ◌∙◌, subst, inl, inr, arith, ltb-true, leb-true}
+use Rattle.std.proofs.Common.{◌≡◌, ℕ, suc, ◌+◌, ◌<◌, ◌≤◌, Bool, true, false, cond, ◌&&◌, ltb, leb, ◌⊎◌, List, get_or, sym, refl, ap, ◌∙◌, subst, inl, inr, Option, Some, None, arith, ltb-true, leb-true}
 use Rattle.servers.specs.Service.{Service, Laws, Sooner, Ticks}
 use Rattle.flow.specs.Nets.{Net, Arrivals}
 use Rattle.flow.specs.Finish.{Finish, by_worst}
@@ -34,22 +34,22 @@ heard (ticks run claims grants w sweep) = let h = heard run in (ap (λ (c : ℕ)
 heard (takes run gone rest h) = heard run
 
 -- what is known of a call that is not refused
-pub arrive_ok : (g : Net) (slots : ℕ) (x : Whole) (v : ℕ) → why g slots x (arrive v) ≡ 0 → (v < g.tasks) × (g.inlet v ≡ true)
+pub arrive_ok : (g : Net) (slots : ℕ) (x : Whole) (v : ℕ) → why g slots x (arrive v) ≡ None → (v < g.tasks) × (g.inlet v ≡ true)
 arrive_ok g slots x v w = let b = go (ltb v g.tasks) (g.inlet v) w in (ltb-true _ _ b.0, b.1)
   where
-    go : (b c : Bool) → ◌≡◌ {A = ℕ} (cond (b && c) (cond (ltb (x.state.waiting v) 65535) 0 15) 13) 0 → (b ≡ true) × (c ≡ true)
+    go : (b c : Bool) → ◌≡◌ {A = Option ℕ} (cond (b && c) (cond (ltb (x.state.waiting v) 65535) None (Some 15)) (Some 13)) None → (b ≡ true) × (c ≡ true)
     go true true w = (refl, refl)
-    go true false w = absurd (omega arith)
-    go false c w = absurd (omega arith)
+    go true false w = absurd cc
+    go false c w = absurd cc
 
-pub need_ok : (g : Net) (slots : ℕ) (x : Whole) (v y : ℕ) → why g slots x (need v y) ≡ 0 → (1 ≤ y) × (y ≤ g.time v)
+pub need_ok : (g : Net) (slots : ℕ) (x : Whole) (v y : ℕ) → why g slots x (need v y) ≡ None → (1 ≤ y) × (y ≤ g.time v)
 need_ok g slots x v y w = let b = go (ltb v g.tasks) (leb 1 y) (leb y (g.time v)) w in (leb-true _ _ b.0, leb-true _ _ b.1)
   where
-    go : (b c d : Bool) → ◌≡◌ {A = ℕ} (cond b (cond (c && d) 0 14) 13) 0 → (c ≡ true) × (d ≡ true)
+    go : (b c d : Bool) → ◌≡◌ {A = Option ℕ} (cond b (cond (c && d) None (Some 14)) (Some 13)) None → (c ≡ true) × (d ≡ true)
     go true true true w = (refl, refl)
-    go true true false w = absurd (omega arith)
-    go true false d w = absurd (omega arith)
-    go false c d w = absurd (omega arith)
+    go true true false w = absurd cc
+    go true false d w = absurd cc
+    go false c d w = absurd cc
 
 module _ {R : Type 0} (places : R → ℕ) (service : R → ℕ → Service) (steps : R → ℕ → Bool → Bool → R → Type 0) (shows : Shows places service steps) where
   -- A sweep ticks each of its places, and no other.

@@ -1,5 +1,5 @@
 -- The sample's run, tick by tick.
-use Rattle.std.proofs.Common.{◌≡◌, ℕ, zero, suc, ◌+◌, ◌-◌, ◌*◌, ◌<◌, ◌≤◌, Bool, true, false, cond, eqb, ltb, List, [], ◌∷◌, sym, refl, ap, ◌∙◌, subst, inl, inr, append-nil, add-one, arith}
+use Rattle.std.proofs.Common.{◌≡◌, ℕ, zero, suc, ◌+◌, ◌-◌, ◌*◌, ◌<◌, ◌≤◌, Bool, true, false, cond, eqb, ltb, List, [], ◌∷◌, sym, refl, ap, ◌∙◌, subst, inl, inr, append-nil, add-one, None, arith}
 use Rattle.std.proofs.lemmas.Bool.Decides.{nat_tests}
 use Rattle.servers.specs.Slices.{worst_of, pace_of}
 use Rattle.servers.specs.declared.fixed.Fixed.{Fixed}
@@ -137,7 +137,7 @@ module _ (slots : ℕ) (room : 2 ≤ slots) where
     looks = looks_after r.whole.state (view m) r.rack.first.server.position r.position r.looks;
   }
     where
-      ok : why sample_net slots (record { state = r.whole.state; belt = [] }) (tick (false ∷ false ∷ [])) ≡ 0
+      ok : why sample_net slots (record { state = r.whole.state; belt = [] }) (tick (false ∷ false ∷ [])) ≡ None
       ok =
           let clk : r.whole.state.clock < 1000000000 = omega (arith, r.looks.clock, view_clock m) in
           let fr : 2 ≤ slots - 0 = omega arith in
