@@ -14,7 +14,7 @@ use faults::reason::Reason;
 use racks::rack::{Rack, no_place};
 
 /// A graph that was accepted. `goal` is the paper's ticks per firing. In `order` each token-free edge goes forward.
-#[derive(Drop)]
+#[derive(PartialEq, Eq, Debug, Drop)]
 pub struct Graph {
     pub goal: u64,
     pub tasks: Vec<Task>,

@@ -8,8 +8,7 @@ use Rattle.cells.specs.Values.{value}
 use Rattle.cells.proofs.Firsts.{first_within, first_after}
 use Rattle.headings.specs.declared.table.Table.TheVariants as table
 use Rattle.headings.specs.Tables.{heading}
-use Rattle.sheets.specs.Checks.{exact_checks, goal_checks}
-use Rattle.sheet_lines.specs.Groups.{goal_line_checks}
+use Rattle.sheets.specs.Checks.{exact_checks, goal_line_checks, goal_checks}
 use Rattle.sheet_lines.proofs.Handed.{handed_on}
 use Rattle.reader.specs.Numbered.{left, Stands}
 use Rattle.reader.specs.TableChecks.{goal_table}
