@@ -1,5 +1,5 @@
 -- The first of the three lines that is not in order, or the goal.
-use Rattle.std.proofs.Common.{◌≡◌, [], ◌++◌, get_or, drop, None, sym, refl, ap, ◌∙◌, rules}
+use Rattle.std.proofs.Common.{◌≡◌, [], ◌++◌, get_or, drop, sym, refl, ap, ◌∙◌, rules}
 use Rattle.std.proofs.lemmas.List.{get_or-drop, drop-drop}
 use Rattle.lexer.specs.Text.{end}
 use Rattle.cells.specs.Bytes.{field}
