@@ -1,9 +1,10 @@
 -- Checks in an order, each with the fault that it tells, and the first that fails.
-use Rattle.std.specs.Prelude.{◌≡◌, ℕ, Bool, true, false, cond, List, [], ◌∷◌, ◌++◌, Some, None, Ok, Err, Option, Result}
+use Rattle.std.specs.Prelude.{◌≡◌, ℕ, Bool, true, false, cond, not, List, [], ◌∷◌, ◌++◌, Some, None, Ok, Err, Option, Result}
 use Rattle.std.specs.List.{AllByRecursion}
 use Rattle.faults.specs.Faults.{fault}
 use Rattle.faults.specs.declared.fault.Fault.{Fault}
 use Rattle.faults.specs.declared.layer.Layer.TheVariants.{Reader}
+use Rattle.cells.specs.Values.{number, named, a_kind}
 
 pub record Check : Type 0 where
   pub broken : Bool
@@ -12,6 +13,17 @@ pub record Check : Type 0 where
 -- The reader's fault n at a line and a field, where `b` holds.
 abbrev pub bad : Bool → ℕ → ℕ → ℕ → Check
 bad b n line field = record { broken = b; told = fault n Reader line field }
+
+-- One field f, at a line and field.
+
+abbrev pub number_checks : ℕ → ℕ → ℕ → ℕ → List ℕ → List Check
+number_checks low high line on f = bad (not (number low high f)) 5 line on ∷ []
+
+abbrev pub name_checks : ℕ → ℕ → List ℕ → List Check
+name_checks line on f = bad (not (named f)) 6 line on ∷ []
+
+abbrev pub kind_checks : ℕ → ℕ → List ℕ → List Check
+kind_checks line on f = bad (not (a_kind f)) 6 line on ∷ []
 
 -- Fault f is told: some check breaks with it, and all before it are in order.
 pub record First (cs : List Check) (f : Fault) : Type 0 where

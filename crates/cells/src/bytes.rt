@@ -2,12 +2,11 @@ ghost use Rattle.std.specs.Prelude.{◌≡◌, false, true, ◌||◌, ◌==◌, 
 ghost use Rattle.cells.specs.Bytes.{plain};
 ghost use Rattle.cells.specs.Values.{value, numeral, named};
 
+use names::name::LONGEST;
 use std::str::from_utf8;
 
-// The most digits of a number, and the most bytes of a name.
+// The most digits of a number.
 const MOST_DIGITS: usize = 9;
-
-const LONGEST_NAME: usize = 12;
 
 // A letter or a digit.
 fn is_plain(b: &u8) -> bool
@@ -49,6 +48,6 @@ pub(crate) fn is_named(part: &[u8]) -> bool
     ensures { result ≡ named part.now }
 {
     part.first().is_some_and(u8::is_ascii_lowercase)
-        && part.len() <= LONGEST_NAME
+        && part.len() <= LONGEST
         && part.iter().all(is_plain)
 }

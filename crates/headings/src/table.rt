@@ -40,6 +40,7 @@ impl Table {
 }
 
 // Whether the fields of a line name these columns, in order.
+// By count and pairs, no plainer by an `eq` of the columns that they name: where two of those differ, the proof wants the words again.
 fn names_columns(line: &[u8], columns: &[Column]) -> bool
     ensures { IsTrue result ↔ (fields line.now ≡ map column_word columns.now) }
 {

@@ -6,6 +6,10 @@ use Rattle.lexer.specs.declared.token.Shape.TheVariants.{Word, Number, LineEnd}
 use Rattle.lexer.specs.declared.fields.Fields.{Fields}
 use Rattle.lexer.specs.Shapes.{shape_of}
 
+-- A count that stays at the highest u32.
+abbrev pub counted : ℕ → ℕ
+counted n = min n (2 ^ 32 - 1)
+
 abbrev pub fields_left : Fields → List (List ℕ)
 fields_left f = f.parts
 
@@ -15,7 +19,7 @@ pub record Took (f : Fields) (t : Token) (g : Fields) : Type 0 where
   pub shape : t.shape ≡ shape_of t.part.now
   pub line_is : g.line ≡ f.line
   pub token_line : t.line ≡ f.line
-  pub field_is : g.field ≡ min (f.field + 1) (2 ^ 32 - 1)
+  pub field_is : g.field ≡ counted (f.field + 1)
   pub token_field : t.field ≡ g.field
 
 -- No field is left: the token is the line's end, and nothing moves.

@@ -4,19 +4,20 @@ ghost use Rattle.lexer.specs.Left.{fields_left, Next};
 
 use crate::parts::Parts;
 use crate::token::{Shape, Token};
+use faults::fault::LineNumber;
 
 /// The fields that are left of a line, each as a token with its place; `field` were read.
 /// No Iterator, since the line's end is a token too, given again and again.
 #[derive(Drop)]
 pub struct Fields<'a> {
     parts: Parts<'a>,
-    line: u32,
+    line: LineNumber,
     field: u32,
 }
 
 impl<'a> Fields<'a> {
     /// The fields of a line that has this number.
-    pub fn new(text: &'a [u8], line: u32) -> Fields<'a>
+    pub fn new(text: &'a [u8], line: LineNumber) -> Fields<'a>
         ensures left { fields_left result ≡ fields text.now }
         ensures line { result.line ≡ line }
         ensures field { result.field ≡ 0 }
@@ -40,6 +41,7 @@ impl<'a> Fields<'a> {
                 field: 0,
             };
         };
+        // Counted here: behind the last number the count stays, where a range would overflow.
         self.field = self.field.saturating_add(1);
         Token {
             shape: Shape::from(part),

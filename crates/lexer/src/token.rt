@@ -3,7 +3,7 @@ ghost use Rattle.faults.specs.Faults.{refusal};
 ghost use Rattle.faults.specs.declared.layer.Layer.TheVariants.{Reader as AtReader};
 ghost use Rattle.lexer.specs.Shapes.{shape_of};
 
-use faults::fault::Fault;
+use faults::fault::{Fault, LineNumber};
 use faults::layer::Layer;
 use faults::reason::Reason;
 
@@ -29,11 +29,12 @@ impl From<&[u8]> for Shape {
 }
 
 /// A token of a text: a part of it, with its place. Lines and fields are counted from 1.
+// The shape beside the part and not around it: who reads a field asks for the part, whatever its shape.
 #[derive(Clone, Copy, PartialEq, Eq, Debug)]
 pub struct Token<'a> {
     pub shape: Shape,
     pub part: &'a [u8],
-    pub line: u32,
+    pub line: LineNumber,
     pub field: u32,
 }
 

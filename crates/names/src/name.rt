@@ -53,6 +53,7 @@ impl Name {
     ghost use Rattle.names.specs.Names.{name_bytes};
 
     /// The name that has these bytes; none where they are more than 12.
+    // For callers who only ask whether the bytes fit.
     pub fn new(text: &[u8]) -> Option<Name>
         ensures { MatchOption result (12 < length text.now) (λ n. name_bytes n ≡ text.now) }
     {
@@ -69,6 +70,7 @@ impl Name {
 }
 
 /// Two names are equal where their bytes are.
+// By hand: a derive would compare the bytes behind the length too.
 impl PartialEq for Name {
     ghost use Rattle.std.proofs.Common.{rules};
     ghost use Rattle.std.specs.Cmp.Rules.{comparing};

@@ -1,5 +1,5 @@
 -- The checks of the next line, whether it is there or not, and where its number stands.
-use Rattle.std.proofs.Common.{◌≡◌, ℕ, ◌+◌, ◌<◌, List, [], ◌∷◌, get_or, drop, Some, sym, ap, ◌∙◌, arith}
+use Rattle.std.proofs.Common.{◌≡◌, ℕ, ◌+◌, ◌<◌, List, [], get_or, drop, Some, sym, ap, ◌∙◌, arith}
 use Rattle.faults.specs.Faults.{fault}
 use Rattle.faults.specs.declared.fault.Fault.{Fault}
 use Rattle.faults.specs.declared.layer.Layer.TheVariants.{Reader}

@@ -1,8 +1,9 @@
 -- The lines that are left of a text, and what is read next of them.
-use Rattle.std.specs.Prelude.{◌≡◌, ℕ, ◌+◌, ◌-◌, ◌^◌, min, List, [], ◌∷◌, drop, slice_index_or, Option, Some, None, Result, Ok, Err}
+use Rattle.std.specs.Prelude.{◌≡◌, ℕ, ◌+◌, List, [], ◌∷◌, drop, slice_index_or, Option, Some, None, Result, Ok, Err}
 use Rattle.faults.specs.Faults.{fault}
 use Rattle.faults.specs.declared.fault.Fault.{Fault}
 use Rattle.faults.specs.declared.layer.Layer.TheVariants.{Reader}
+use Rattle.lexer.specs.Left.{counted}
 use Rattle.sheet_lines.specs.declared.line.Line.{Line}
 use Rattle.reader.specs.declared.numbered_lines.NumberedLines.{NumberedLines}
 
@@ -21,13 +22,13 @@ pub record Stands (k : ℕ) (ls : List (List ℕ)) (s : NumberedLines) : Type 0 
 -- One line on; numbers stop at the highest there is.
 pub record Passed (s t : NumberedLines) : Type 0 where
   pub lines : left t ≡ drop 1 (left s)
-  pub number : t.number ≡ min (s.number + 1) (2 ^ 32 - 1)
+  pub number : t.number ≡ counted (s.number + 1)
 
 -- The line is the first that is left, with its number.
 pub record Took (s : NumberedLines) (l : Line) (t : NumberedLines) : Type 0 where
   pub line : left s ≡ l.text.now ∷ left t
   pub number : l.number ≡ s.number
-  pub next : t.number ≡ min (s.number + 1) (2 ^ 32 - 1)
+  pub next : t.number ≡ counted (s.number + 1)
 
 -- What `next` answers.
 abbrev pub Next : NumberedLines → Option Line → NumberedLines → Type 0

@@ -5,11 +5,10 @@ ghost use Rattle.cells.specs.Bytes.{field};
 ghost use Rattle.cells.specs.Checks.{Meets};
 ghost use Rattle.cells.specs.Values.{value};
 ghost use Rattle.headings.specs.Tables.{heading};
-ghost use Rattle.sheets.specs.Checks.{exact_checks};
-ghost use Rattle.sheet_lines.specs.Groups.{goal_line_checks};
+ghost use Rattle.sheets.specs.Checks.{exact_checks, goal_line_checks};
 ghost use Rattle.reader.specs.Numbered.{left, next_line, Next, Wanted, Passed, Stands};
 
-use faults::fault::Fault;
+use faults::fault::{Fault, LineNumber};
 use faults::layer::Layer;
 use faults::reason::Reason;
 use headings::table::Table;
@@ -21,7 +20,7 @@ use sheet_lines::lines::{gap_in, goal_in, heading_in};
 #[derive(Drop)]
 pub(crate) struct NumberedLines<'a> {
     lines: Lines<'a>,
-    number: u32,
+    number: LineNumber,
 }
 
 impl<'a> NumberedLines<'a> {
@@ -76,6 +75,7 @@ impl<'a> Iterator for NumberedLines<'a> {
 
     fn next(&mut self) -> Option<Line<'a>> {
         let text = self.lines.next()?;
+        // The number is kept here, and not by a zip: a line that is missing is refused at its number too.
         let number = self.number;
         self.number = number.saturating_add(1);
         Some(Line { text, number })

@@ -25,7 +25,7 @@ pub(crate) fn read_lines(text: &[u8], room: Room) -> Result<Lists, Fault>
         mut edges,
     } = room;
     let mut lines = NumberedLines::new(text);
-    // One after another, no plainer in a loop: each table has a type of its own, and answers another.
+    // One after another, no plainer in a loop: each table is read into another list, and the first answers a number.
     let goal = goal_table(&mut lines)?;
     task_table(&mut lines, &mut entries)?;
     edge_table(&mut lines, &entries, &mut edges)?;

@@ -9,6 +9,7 @@ pub(crate) struct Reserved<T, const N: usize> {
     list: Vec<T>,
 }
 
+// The bound stands in clauses too: a caller sees the list alone, not the invariant.
 impl<T, const N: usize> Model for Reserved<T, N> {
     ghost Value = { List T };
 
@@ -27,7 +28,7 @@ impl<T: Drop, const N: usize> Reserved<T, N> {
 
     pub(crate) fn len(&self) -> usize
         ensures value { result ≡ length self.now }
-        ensures bound { result ≤ N }
+        ensures few { result ≤ N }
     {
         self.list.len()
     }

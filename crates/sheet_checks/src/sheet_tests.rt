@@ -1,6 +1,10 @@
+use graph::parts::Edge;
+use kinds::kind::Kind;
 use names::name::Name;
 use reader::read::read;
 use reader::room::Room;
+use servers::settings::Settings;
+use sheets::sheet::SheetTask;
 use std::alloc::AllocError;
 use std::test::Fail;
 use texts::line::{Cell, put_line};
@@ -10,18 +14,42 @@ use writer::write;
 const SAMPLE: &[u8] =
     b"goal\n32\n\ntask time kind period slice phase inner inslice inphase inlet\nsplit 6 fixed 10 4 4 0 0 0 1\npunch 9 own 1 1 0 3 1 2 0\n\nfrom to tokens\nsplit punch 0\npunch split 255\n";
 
+fn settings(period: u64, slice: u64, phase: u64) -> Settings {
+    Settings {
+        period,
+        slice,
+        phase,
+    }
+}
+
+fn edge(from: usize, to: usize, tokens: u64) -> Edge {
+    Edge { from, to, tokens }
+}
+
 #[test]
 fn sheet_as_types(rt: HostRuntime) -> Result<(), Fail> {
     let sheet = read(SAMPLE, Room::new(rt.alloc())?)?;
-    assert_eq!(rt; sheet.tasks.len(), 2);
-    assert_eq!(rt; sheet.graph.edges.len(), 2);
+    let split = SheetTask {
+        name: Name::try_from(b"split".as_slice())?,
+        time: 6,
+        kind: Kind::Fixed,
+        slice: settings(10, 4, 4),
+        layer: settings(0, 0, 0),
+        inlet: true,
+    };
+    let punch = SheetTask {
+        name: Name::try_from(b"punch".as_slice())?,
+        time: 9,
+        kind: Kind::Own,
+        slice: settings(1, 1, 0),
+        layer: settings(3, 1, 2),
+        inlet: false,
+    };
+    assert_eq!(rt; sheet.tasks.as_slice(), [split, punch].as_slice());
     assert_eq!(rt; sheet.tasks[1].name.as_bytes(), b"punch".as_slice());
-    assert!(rt; sheet.tasks[0].inlet);
-    assert_eq!(rt; sheet.tasks[0].slice.phase, 4);
-    assert_eq!(rt; sheet.tasks[1].layer.slice, 1);
     assert_eq!(rt; sheet.graph.goal, 32);
-    assert_eq!(rt; sheet.graph.edges[1].from, 1);
-    assert_eq!(rt; sheet.graph.edges[1].tokens, 255);
+    let edges = [edge(0, 1, 0), edge(1, 0, 255)];
+    assert_eq!(rt; sheet.graph.edges.as_slice(), edges.as_slice());
     assert_eq!(rt; sheet.rack.servers.len(), 2);
     Ok(())
 }

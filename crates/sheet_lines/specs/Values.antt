@@ -1,8 +1,8 @@
 -- The values that are left of a line, and the checks of each where it stands.
-use Rattle.std.specs.Prelude.{◌≡◌, ℕ, ◌+◌, ◌-◌, ◌^◌, ◌≤◌, true, min, cond, List, [], ◌∷◌, ◌++◌, length, drop, nat_lt, slice_index_or}
+use Rattle.std.specs.Prelude.{◌≡◌, ℕ, ◌+◌, ◌≤◌, true, cond, List, [], ◌∷◌, ◌++◌, length, drop, nat_lt, slice_index_or}
 use Rattle.lexer.specs.declared.fields.Fields.{Fields}
 use Rattle.lexer.specs.declared.token.Token.{Token}
-use Rattle.lexer.specs.Left.{fields_left}
+use Rattle.lexer.specs.Left.{counted, fields_left}
 use Rattle.lexer.specs.Text.{fields}
 use Rattle.cells.specs.Bytes.{parted}
 use Rattle.cells.specs.Checks.{Check}
@@ -20,7 +20,7 @@ pub record Begins (n : ℕ) (text : List ℕ) (number : ℕ) (f : Fields) : Type
 -- n fields on, in the same line.
 pub record Passed (n : ℕ) (f g : Fields) : Type 0 where
   pub left : fields_left g ≡ drop n (fields_left f)
-  pub field : n ≤ length (fields_left f) → g.field ≡ min (f.field + n) (2 ^ 32 - 1)
+  pub field : n ≤ length (fields_left f) → g.field ≡ counted (f.field + n)
   pub line : g.line ≡ f.line
 
 -- What stands in the k-th field that is left; nothing where there is none.
@@ -29,7 +29,7 @@ part k f = slice_index_or (fields_left f) k []
 
 -- The number of that field in its line, and 0 where there is none.
 abbrev pub place : ℕ → Fields → ℕ
-place k f = cond (nat_lt k (length (fields_left f))) (min (f.field + (k + 1)) (2 ^ 32 - 1)) 0
+place k f = cond (nat_lt k (length (fields_left f))) (counted (f.field + (k + 1))) 0
 
 -- What is checked of a field, by its line, its number and what it holds.
 abbrev pub FieldChecks : Type 0

@@ -9,7 +9,7 @@ ghost use Rattle.sheet_lines.specs.Groups.{server_checks};
 use crate::above::Above;
 use crate::line::Line;
 use cells::line::is_well;
-use faults::fault::Fault;
+use faults::fault::{Fault, LineNumber};
 use faults::layer::Layer;
 use faults::reason::Reason;
 use graph::parts::{LONGEST_TIME, MOST_TASKS};
@@ -18,7 +18,7 @@ use layers::stack::Stack;
 use sheets::sheet::SheetTask;
 
 /// A task, and the server that its settings make.
-#[derive(Drop)]
+#[derive(Clone, Copy, PartialEq, Eq, Debug)]
 pub struct ServedTask {
     pub task: SheetTask,
     pub server: Stack<AnyKind>,
@@ -46,7 +46,7 @@ fn task_in(line: Line<'_>) -> Result<SheetTask, Fault>
 }
 
 // The server that a task's settings make.
-fn server_in(task: &SheetTask, line: u32) -> Result<Stack<AnyKind>, Fault>
+fn server_in(task: &SheetTask, line: LineNumber) -> Result<Stack<AnyKind>, Fault>
     ensures { Meets result (server_checks line (says task.now)) (Made (says task.now)) }
 {
     let below = AnyKind::new(task.kind, task.slice, line)?;

@@ -1,14 +1,14 @@
-ghost use Rattle.std.specs.Prelude.{◌≡◌, true, not, [], ◌∷◌};
+ghost use Rattle.std.specs.Prelude.{◌≡◌, true, not, [], ◌∷◌, ◌++◌};
 ghost use Rattle.faults.specs.Faults.{refusal};
 ghost use Rattle.faults.specs.declared.layer.Layer.TheVariants.{Reader as AtReader};
 ghost use Rattle.cells.specs.Bytes.{well, parted};
 ghost use Rattle.cells.specs.Checks.{bad, Meets};
-ghost use Rattle.sheets.specs.Checks.{empty, missing};
+ghost use Rattle.sheets.specs.Checks.{empty, whole_checks};
 ghost use Rattle.sheet_lines.specs.Values.{Begins};
 
 use crate::values::Values;
 use cells::line::{is_parted, is_well};
-use faults::fault::Fault;
+use faults::fault::{Fault, LineNumber};
 use faults::layer::Layer;
 use faults::reason::Reason;
 use lexer::fields::Fields;
@@ -17,7 +17,7 @@ use lexer::fields::Fields;
 #[derive(Clone, Copy, PartialEq, Eq, Debug)]
 pub struct Line<'a> {
     pub text: &'a [u8],
-    pub number: u32,
+    pub number: LineNumber,
 }
 
 impl<'a> Line<'a> {
@@ -40,9 +40,9 @@ impl<'a> Line<'a> {
     }
 
     /// Refuses a line that is not there, or has other bytes than those of the format and an end.
-    // No bytes are tested for, though a reader of a text never meets such a line: the clauses of the calls that use this speak of any line.
+    // A line of no bytes is tested for too, though a reader of a text never meets one: the clauses of the calls that use this speak of any line.
     pub(crate) fn must_be_whole(self) -> Result<(), Fault>
-        ensures { Meets result (bad (missing self.entry.text.now) 3 self.entry.number 0 ∷ bad (not (well self.entry.text.now)) 2 self.entry.number 0 ∷ []) (λ _. well self.entry.text.now ≡ true) }
+        ensures { Meets result (whole_checks self.entry.number self.entry.text.now) (λ _. well self.entry.text.now ≡ true) }
     {
         self.must(!self.text.is_empty(), Reason::Heading)?;
         self.must(is_well(self.text), Reason::ForeignByte)
@@ -50,7 +50,7 @@ impl<'a> Line<'a> {
 
     /// Refuses a line that is not whole, or is not the one that has to stand here.
     pub(crate) fn must_be_given(self, is_given: bool) -> Result<(), Fault>
-        ensures { Meets result (bad (missing self.entry.text.now) 3 self.entry.number 0 ∷ bad (not (well self.entry.text.now)) 2 self.entry.number 0 ∷ bad (not is_given) 3 self.entry.number 0 ∷ []) (λ _. Unit {0}) }
+        ensures { Meets result (whole_checks self.entry.number self.entry.text.now ++ (bad (not is_given) 3 self.entry.number 0 ∷ [])) (λ _. Unit {0}) }
     {
         self.must_be_whole()?;
         self.must(is_given, Reason::Heading)

@@ -4,8 +4,7 @@ ghost use Rattle.cells.specs.Bytes.{field};
 ghost use Rattle.cells.specs.Checks.{Meets};
 ghost use Rattle.cells.specs.Values.{value};
 ghost use Rattle.headings.specs.Tables.{heading};
-ghost use Rattle.sheets.specs.Checks.{exact_checks};
-ghost use Rattle.sheet_lines.specs.Groups.{goal_line_checks};
+ghost use Rattle.sheets.specs.Checks.{exact_checks, goal_line_checks};
 
 use crate::line::Line;
 use faults::fault::Fault;

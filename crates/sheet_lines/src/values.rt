@@ -1,8 +1,8 @@
 ghost use Rattle.std.specs.Prelude.{◌≡◌, ◌++◌};
-ghost use Rattle.cells.specs.Checks.{Meets};
+ghost use Rattle.cells.specs.Checks.{number_checks, name_checks, kind_checks, Meets};
 ghost use Rattle.cells.specs.Values.{value, kind_of};
 ghost use Rattle.names.specs.Names.{name_bytes};
-ghost use Rattle.sheets.specs.Checks.{number_checks, name_checks, kind_checks, task_checks, index_of};
+ghost use Rattle.sheets.specs.Checks.{task_checks, index_of};
 ghost use Rattle.sheet_lines.specs.Values.{part, here, Reads, Passed, settings_from};
 
 use crate::above::Above;

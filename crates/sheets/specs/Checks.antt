@@ -5,8 +5,8 @@ use Rattle.faults.specs.Faults.{fault}
 use Rattle.faults.specs.declared.layer.Layer.TheVariants as layer
 use Rattle.lexer.specs.Text.{lines, fields, end}
 use Rattle.cells.specs.Bytes.{well, parted, field}
-use Rattle.cells.specs.Values.{number, named, value, a_kind, kind_of}
-use Rattle.cells.specs.Checks.{Check, bad}
+use Rattle.cells.specs.Values.{named, value, kind_of}
+use Rattle.cells.specs.Checks.{Check, bad, number_checks, name_checks, kind_checks}
 use Rattle.servers.specs.declared.settings.Settings.{Settings}
 use Rattle.kinds.specs.declared.kind.Kind as kind
 use Rattle.graph.specs.declared.parts.Edge.{Edge}
@@ -30,18 +30,7 @@ abbrev pub index_of : List (List ℕ) → List ℕ → ℕ
 index_of [] n = 0
 index_of (m ∷ ms) n = cond (bytes_eq m n) 0 (index_of ms n + 1)
 
--- One field f, at a line and field.
-
-abbrev pub number_checks : ℕ → ℕ → ℕ → ℕ → List ℕ → List Check
-number_checks low high line on f = bad (not (number low high f)) 5 line on ∷ []
-
-abbrev pub name_checks : ℕ → ℕ → List ℕ → List Check
-name_checks line on f = bad (not (named f)) 6 line on ∷ []
-
-abbrev pub kind_checks : ℕ → ℕ → List ℕ → List Check
-kind_checks line on f = bad (not (a_kind f)) 6 line on ∷ []
-
--- the name of one of the tasks, whose names are ns
+-- Field f has to be the name of one of the tasks, whose names are ns.
 abbrev pub task_checks : List (List ℕ) → ℕ → ℕ → List ℕ → List Check
 task_checks ns line on f = bad (not (named f)) 6 line on ∷ bad (not (taken ns f)) 8 line on ∷ []
 
@@ -71,7 +60,7 @@ cell_checks ns (c ∷ cs) line before k fs = column_checks ns c line (before + (
 abbrev pub value_checks : List (List ℕ) → Table → ℕ → List ℕ → List Check
 value_checks ns t line l = bad (not (parted (length (table_columns t)) l)) 4 line 0 ∷ cell_checks ns (table_columns t) line 0 0 (fields l)
 
--- The server's settings of a task.
+-- The server's settings of a task. As Bools, since a list of checks computes; servers Settings says the same as facts.
 
 abbrev pub legal_fixed : Settings → Bool
 legal_fixed s = nat_le 1 s.slice && (nat_le s.slice s.period && (nat_le s.period 65535 && nat_lt s.phase s.period))
@@ -103,20 +92,21 @@ missing l = length l == 0
 abbrev pub empty : List ℕ → Bool
 empty l = bytes_eq l end
 
+-- A line that is there, with bytes of the format and an end.
+abbrev pub whole_checks : ℕ → List ℕ → List Check
+whole_checks line l = bad (missing l) 3 line 0 ∷ bad (not (well l)) 2 line 0 ∷ []
+
 -- A line that has to be just so.
 abbrev pub exact_checks : List ℕ → ℕ → List ℕ → List Check
-exact_checks wanted line l =
-    bad (missing l) 3 line 0
-    ∷ bad (not (well l)) 2 line 0
-    ∷ bad (not (bytes_eq l wanted)) 3 line 0
-    ∷ []
+exact_checks wanted line l = whole_checks line l ++ (bad (not (bytes_eq l wanted)) 3 line 0 ∷ [])
 
+-- The goal's line, on whichever line it stands.
+abbrev pub goal_line_checks : ℕ → List ℕ → List Check
+goal_line_checks line l = whole_checks line l ++ (bad (empty l) 3 line 0 ∷ value_checks [] table.Goal line l)
+
+-- In a sheet it stands on line 2.
 abbrev pub goal_checks : List ℕ → List Check
-goal_checks l =
-    bad (missing l) 3 2 0
-    ∷ bad (not (well l)) 2 2 0
-    ∷ bad (empty l) 3 2 0
-    ∷ value_checks [] table.Goal 2 l
+goal_checks l = goal_line_checks 2 l
 
 -- A task's line, below those of the tasks whose names are ns.
 abbrev pub entry_checks : List (List ℕ) → ℕ → List ℕ → List Check

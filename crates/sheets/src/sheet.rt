@@ -39,7 +39,7 @@ impl From<&SheetTask> for Task {
 /// A sheet: its tasks as written, the graph that they make with the goal and the edges, and a rack of their servers in task order.
 /// The tasks stand three times, as written, in the graph and in the rack, since graph and rack each keep their own.
 // That the three fit each other is no fact of the type: a writer takes any sheet, and a narrower type would ask more of its callers.
-#[derive(Drop)]
+#[derive(PartialEq, Eq, Debug, Drop)]
 pub struct Sheet {
     pub tasks: Vec<SheetTask>,
     pub graph: Graph,

@@ -20,12 +20,7 @@ fn token(part: &[u8]) -> Token<'_> {
 
 // The reader's refusal of that token.
 fn refused(reason: Reason) -> Fault {
-    Fault {
-        reason,
-        layer: Layer::Reader,
-        line: 5,
-        field: 2,
-    }
+    Layer::Reader.refuses(reason, 5, 2)
 }
 
 #[test]
@@ -65,10 +60,9 @@ fn numbers(rt: HostRuntime) {
     }
     let bad: [&[u8]; 6] = [b"65536", b"0", b"07", b"1234567890", b"", b"1a"];
     for part in bad {
-        assert_eq!(rt;
-            number_in(token(part), 1, 65_535),
-            Err(refused(Reason::NumberRange))
-        );
+        let told = number_in(token(part), 1, 65_535);
+        assert_eq!(rt; told, Err(refused(Reason::NumberRange)));
+        assert_eq!(rt; told.map_err(|fault| fault.reason.number()), Err(5));
     }
 }
 
@@ -80,7 +74,9 @@ fn names_and_kinds(rt: HostRuntime) {
     );
     let bad: [&[u8]; 4] = [b"abcdefghijklm", b"9a", b"", b"a_b"];
     for part in bad {
-        assert_eq!(rt; name_in(token(part)), Err(refused(Reason::Word)));
+        let told = name_in(token(part));
+        assert_eq!(rt; told, Err(refused(Reason::Word)));
+        assert_eq!(rt; told.map_err(|fault| fault.reason.number()), Err(6));
     }
     let kinds: [(&[u8], Result<Kind, Fault>); 4] = [
         (b"own", Ok(Kind::Own)),
@@ -91,6 +87,8 @@ fn names_and_kinds(rt: HostRuntime) {
     for (part, kind) in kinds {
         assert_eq!(rt; kind_in(token(part)), kind);
     }
+    let told = kind_in(token(b"owns"));
+    assert_eq!(rt; told.map_err(|fault| fault.reason.number()), Err(6));
 }
 
 #[test]

@@ -1,5 +1,5 @@
 -- The first of the three lines that is not in order, or the goal.
-use Rattle.std.proofs.Common.{◌≡◌, [], ◌++◌, get_or, drop, None, sym, refl, ap, ◌∙◌, rules}
+use Rattle.std.proofs.Common.{◌≡◌, [], ◌++◌, get_or, drop, sym, refl, ap, ◌∙◌, rules}
 use Rattle.std.proofs.lemmas.List.{get_or-drop, drop-drop}
 use Rattle.lexer.specs.Text.{end}
 use Rattle.cells.specs.Bytes.{field}
@@ -8,8 +8,7 @@ use Rattle.cells.specs.Values.{value}
 use Rattle.cells.proofs.Firsts.{first_within, first_after}
 use Rattle.headings.specs.declared.table.Table.TheVariants as table
 use Rattle.headings.specs.Tables.{heading}
-use Rattle.sheets.specs.Checks.{exact_checks, goal_checks}
-use Rattle.sheet_lines.specs.Groups.{goal_line_checks}
+use Rattle.sheets.specs.Checks.{exact_checks, goal_line_checks, goal_checks}
 use Rattle.sheet_lines.proofs.Handed.{handed_on}
 use Rattle.reader.specs.Numbered.{left, Stands}
 use Rattle.reader.specs.TableChecks.{goal_table}

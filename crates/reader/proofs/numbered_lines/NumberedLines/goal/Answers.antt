@@ -2,7 +2,7 @@
 use Rattle.std.proofs.Common.{refl, ◌∙◌}
 use Rattle.cells.specs.Bytes.{field}
 use Rattle.cells.specs.Values.{value}
-use Rattle.sheet_lines.specs.Groups.{goal_line_checks}
+use Rattle.sheets.specs.Checks.{goal_line_checks}
 use Rattle.sheet_lines.proofs.Handed.{handed_on, handed_back}
 use Rattle.reader.proofs.Numbered.{missed, met, read_as, one_on}
 use Rattle.reader.proofs.numbered_lines.NumberedLines.goal.Goals as goal

@@ -3,7 +3,7 @@ use Rattle.std.proofs.Common.{◌++◌, sym, ap, ◌∙◌}
 use Rattle.cells.specs.Checks.{first}
 use Rattle.cells.specs.Values.{value}
 use Rattle.cells.proofs.Firsts.{first_within, first_after}
-use Rattle.sheets.specs.Checks.{number_checks}
+use Rattle.cells.specs.Checks.{number_checks}
 use Rattle.sheet_lines.specs.Values.{here}
 use Rattle.sheet_lines.proofs.Columns.{passed_on, part_on, here_on}
 use Rattle.sheet_lines.proofs.Handed.{handed_on}
