@@ -1,5 +1,5 @@
 -- A text cut after its first line, and a line after its first field.
-use Rattle.std.proofs.Common.{◌≡◌, ℕ, suc, ◌+◌, ◌<◌, ◌≤◌, min, Bool, true, false, cond, not, eqb, List, [], ◌∷◌, ◌++◌, length, take, drop, Option, None, Some, Bor, inl, inr, refl, sym, ap, ◌∙◌, one-add, add-one, arith, length-append}
+use Rattle.std.proofs.Common.{◌≡◌, ℕ, suc, ◌+◌, ◌<◌, ◌≤◌, min, Bool, true, false, cond, not, eqb, List, [], ◌∷◌, ◌++◌, length, take, drop, Option, None, Some, Bor, inl, inr, refl, sym, ap, ◌∙◌, rules, one-add, add-one, arith, length-append}
 use Rattle.std.specs.Option.{unwrap_or}
 use Rattle.std.specs.Slice.{IsGetRangeResult}
 use Rattle.std.specs.Bool.{MatchBool}
@@ -58,3 +58,11 @@ first_part whole bs part more cut first some =
 pub past_place : (bs : List ℕ) (n : ℕ) (r : Option (Bor (List ℕ))) (d x : Bor (List ℕ)) → IsGetRangeResult bs n (length bs) r → d.now ≡ [] → x ≡ unwrap_or r d → x.now ≡ drop n bs
 past_place bs n None d x g z e = ap (λ (b : Bor (List ℕ)). b.now) e ∙ z ∙ sym (drop_all n bs (elim g.0 [ inl h ↦ omega arith | inr h ↦ omega arith ]))
 past_place bs n (Some y) d x g z e = ap (λ (b : Bor (List ℕ)). b.now) e ∙ g.0.2 ∙ take_rest bs n
+
+none : (bs : List ℕ) (f : List ℕ) (fs : List (List ℕ)) → fields bs ≡ f ∷ fs → fields bs ≡ [] → bs ≡ []
+none bs f fs some e = absurd (search (rules, sym some ∙ e))
+
+-- A text without fields has no bytes.
+pub no_fields : (bs : List ℕ) → fields bs ≡ [] → bs ≡ []
+no_fields [] e = refl
+no_fields (b ∷ bs) e = none (b ∷ bs) _ _ (first_field (b ∷ bs) (omega arith)) e

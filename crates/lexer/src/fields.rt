@@ -30,13 +30,14 @@ impl<'a> Fields<'a> {
     }
 
     /// The next field, or the line's end where none is left.
+    #[tactic(auto, using(crate::proofs::Cuts::no_fields))]
     pub fn next(&mut self) -> Token<'a>
         ensures { Next self.old result self.new }
     {
         let Some(part) = self.parts.next() else {
             return Token {
                 shape: Shape::LineEnd,
-                part: &[],
+                part: self.parts.rest(),
                 line: self.line,
                 field: 0,
             };

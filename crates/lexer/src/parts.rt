@@ -26,6 +26,13 @@ impl<'a> Parts<'a> {
     {
         Parts { rest: line }
     }
+
+    /// The text that is left, of which the fields that are left are the parts.
+    pub(crate) fn rest(&self) -> &'a [u8]
+        ensures { fields result.now ≡ self.now }
+    {
+        self.rest
+    }
 }
 
 impl<'a> Iterator for Parts<'a> {
