@@ -12,6 +12,7 @@ abbrev pub all_agree : List (ℕ × ℕ) → Bool
 all_agree [] = true
 all_agree (p ∷ ps) = p.0 == p.1 && all_agree ps
 
+-- The servers of the worked figures, by their settings; `inner_3_1` is a layer on `fixed_10_4`.
 abbrev pub fixed_10_4 : Service
 fixed_10_4 = slice_service 10 4 0
 
@@ -28,6 +29,7 @@ fixed_65535_1 = slice_service 65535 1 0
 abbrev pub refused_by : ℕ → ℕ
 refused_by x = cond (nat_le x ceiling) 0 (number_of (reason_by 12))
 
+-- Figures told, in the order of the rules, and refusals by their number.
 abbrev pub starred : List (ℕ × ℕ)
 starred =
     (fixed_10_4.worst 0, 0)

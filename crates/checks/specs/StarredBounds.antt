@@ -1,14 +1,15 @@
 -- The worked finish bounds of one task alone, each as it is computed by the definitions and as it is expected.
-use Rattle.std.specs.Prelude.{ℕ, ◌+◌, ◌*◌, List, [], ◌∷◌}
+use Rattle.std.specs.Prelude.{ℕ, ◌+◌, ◌*◌, List, [], ◌∷◌, ◌++◌}
 use Rattle.servers.specs.Service.{Service}
 use Rattle.servers.specs.FixedService.{slice_service}
 use Rattle.flow.specs.Lone.{lone_bound}
-use Rattle.checks.specs.Starred.{fixed_10_4}
+use Rattle.checks.specs.Starred.{fixed_10_4, starred}
 
--- What m firings of time 6 in a row take at most on fixed_10_4: by the worst wait, and by lead and pace.
+-- What m firings of time 6 in a row take at most on fixed_10_4: by the worst wait,
 abbrev pub worst_of_6 : ℕ → ℕ
 worst_of_6 m = fixed_10_4.worst (m * 6)
 
+-- and by lead and pace
 abbrev pub lead_and_pace_of_6 : ℕ → ℕ
 lead_and_pace_of_6 m = fixed_10_4.lead + m * fixed_10_4.pace 6
 
@@ -20,6 +21,7 @@ arrivals = 0 ∷ 5 ∷ 40 ∷ []
 abbrev pub fixed_10_4_in_4 : Service
 fixed_10_4_in_4 = slice_service 10 4 4
 
+-- Bounds by the worst wait, then by lead and pace, then the waits in phase 4.
 abbrev pub starred_bounds : List (ℕ × ℕ)
 starred_bounds =
     (lone_bound worst_of_6 arrivals 0, 18)
@@ -31,3 +33,7 @@ starred_bounds =
     ∷ (fixed_10_4_in_4.wait 6, 18)
     ∷ (fixed_10_4_in_4.wait 12, 30)
     ∷ []
+
+-- All worked figures, in the one list that is checked.
+abbrev pub all_starred : List (ℕ × ℕ)
+all_starred = starred ++ starred_bounds

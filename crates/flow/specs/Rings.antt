@@ -13,19 +13,21 @@ abbrev pub IsIn : Net → Hop → Type 0
 IsIn n (edge e) = e < n.edges
 IsIn n (link v) = v < n.tasks
 
--- The task that it comes from, and the task that it goes to.
+-- The task that it comes from,
 abbrev pub out_of : Net → Hop → ℕ
 out_of n (edge e) = n.from e
 out_of n (link v) = v
 
+-- and the task that it goes to.
 abbrev pub into : Net → Hop → ℕ
 into n (edge e) = n.to e
 into n (link v) = v
 
--- r(time) of v, and L + r(time)
+-- r(time) of v,
 abbrev pub pace_of : Net → (ℕ → Service) → ℕ → ℕ
 pace_of n service v = (service v).pace (n.time v)
 
+-- and L + r(time).
 abbrev pub lead_and_pace_of : Net → (ℕ → Service) → ℕ → ℕ
 lead_and_pace_of n service v = (service v).lead + pace_of n service v
 

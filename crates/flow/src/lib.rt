@@ -20,12 +20,12 @@ pub fn lone_bounds()
     ensures { LoneBounds }
 {}
 
-/// Numbers that meet the inequalities of the start figures show that no ring is slower than cycle over parts.
+/// Numbers that meet the inequalities of the start figures, which speak of edges alone, show that no ring is slower than cycle over parts, where no task's link is.
 pub fn potential_bounds_rings()
     ensures { Potential }
 {}
 
-/// A net has one cycle over parts, and a task one start figure; a task alone has both.
+/// A sound net has at most one cycle over parts, and a task at most one start figure; a task alone has both.
 pub fn ring_figures()
     ensures start { OneStart }
     ensures cycle { OneCycle }
