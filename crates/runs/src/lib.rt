@@ -2,7 +2,7 @@
 
 ghost use Rattle.flow.specs.FinishLaws.{GraphsSound};
 ghost use Rattle.runs.specs.Claims.{OnTime, Paced, Steady, Records, NotEarly};
-ghost use Rattle.runs.specs.Exact.{Exact, NoSmaller, slice_at, slice_steps};
+ghost use Rattle.runs.specs.Exact.{Exact, NoSmaller, Phase4, slice_at, slice_steps};
 ghost use Rattle.runs.specs.Sample.{Sample, sample_places, sample_service, sample_steps};
 
 use racks::one::One;
@@ -53,6 +53,11 @@ pub fn records<R: Rack>()
 /// There are such runs: the sample's, tick by tick, in which both first firings end exactly at their finish bounds. Its cycle and start figures are there too.
 pub fn sample_run()
     ensures { Sample }
+{}
+
+/// `exact` in a worked figure: one task alone with time 6, arrivals at 0, 5 and 40, on the slice 4 of 10. In phase 4 its firing 1 ends at 30, its finish bound.
+pub fn worked_phase()
+    ensures { Phase4 }
 {}
 
 /// The promise of the sample's rack: its ticks are those of `sample_run`.
