@@ -1,4 +1,4 @@
--- The bound is met at some phase.
+-- The bound is met in some phase; in the worked figure, in phase 4.
 use Rattle.std.proofs.Common.{◌≡◌, ℕ, zero, suc, ◌+◌, ◌-◌, ◌*◌, ◌<◌, ◌≤◌, Bool, true, false, cond, ◌&&◌, eqb, ltb, ◌⊎◌, List, [], ◌∷◌, length, get_or, sym, refl, ap, ◌∙◌, subst, inl, inr, append-nil, None, arith}
 use Rattle.std.proofs.lemmas.Bool.Decides.{nat_tests}
 use Rattle.servers.specs.Slices.{wait_at, worst_of}
@@ -14,7 +14,8 @@ use Rattle.servers.specs.Rounding.{le_or_lt}
 use Rattle.runs.specs.Runs.{arrive, tick, Said, done, arrivals_of, Whole, why, Sweep, none, more, Run, begin, refuses, arrives, sets, ticks, takes}
 use Rattle.runs.specs.Claims.{Ended}
 use Rattle.flow.specs.Lone.{lone, at_times}
-use Rattle.runs.specs.Exact.{slice_at, slice_steps, Full, Meets, SomeRun, EndsAt, Attained, Exact, NoSmaller}
+use Rattle.flow.proofs.Lone.{lone_bounds}
+use Rattle.runs.specs.Exact.{slice_at, slice_steps, Full, Meets, SomeRun, EndsAt, AttainedIn, Attained, Case, Exact, NoSmaller, Phase4}
 use Rattle.runs.proofs.Forget.{Shows, worsts, heard, on_time}
 use Rattle.runs.proofs.Lone.{next, posn, posn_none, posn_step, phase, Low, low_start, low_needs, low_arrived, low_ticked}
 
@@ -242,6 +243,24 @@ worst_place p s some fits = go (le_or_lt p s)
     go (inl h) = (0, omega arith, worst_whole p s some fits (omega arith))
     go (inr h) = (s, h, worst_after p s some fits h)
 
+-- a firing is not finished before its arrival
+after_last : (time : ℕ) (cost : ℕ → ℕ) (times : List ℕ) (i t : ℕ) → Finish (lone time) (at_times times) (λ v. cost) 0 i t → get_or times i 0 ≤ t
+after_last time cost times i t (finish a fs ds rs m) = omega (arith, ((rs i (omega arith)).arrived refl).1, m.covers i (omega arith))
+
+-- A slice that is worst at arrival k, from which the bound counts, attains it in its phase.
+attained_in : (f : Fixed) (time : ℕ) (times : List ℕ) (i t : ℕ) → Case f.slice.period f.slice.ticks time times i t → (k a : ℕ) → k ≤ i → get_or times k 0 ≡ a →
+    t ≡ a + worst_of f.slice.period f.slice.ticks ((i - k + 1) * time) →
+    ((n : ℕ) → wait_at f.slice.period f.slice.ticks (posn f.slice.period f.position a) n ≡ worst_of f.slice.period f.slice.ticks n) →
+    AttainedIn f.slice.period f.slice.ticks f.position time times i t
+attained_in f time times i t case k a ki at tight there =
+    let last : get_or times i 0 ≤ t = after_last time (λ m. worst_of f.slice.period f.slice.ticks (m * time)) times i t case.bound in
+    record {
+      server = f;
+      starts = record { its_period = refl; its_slice = refl; its_phase = refl };
+      some = λ slots room. some_run f time case.time_pos slots room times case.few case.never_fall i case.firing (omega (arith, case.near)) t last case.near;
+      each = λ slots room. ends_at f time case.time_pos slots i k a t ki tight there times at case.bound;
+    }
+
 pub exact : Exact
 exact period slice time times i t case = by case.bound
   where
@@ -253,14 +272,7 @@ exact period slice time times i t case = by case.bound
         let ph = phase period (a k) at.0 at.1 in
         let f : Fixed = record { slice = record { period = period; ticks = slice; some = case.some; within = case.within; short = case.short }; position = ph.0; passed = ph.1 } in
         let there : (n : ℕ) → wait_at period slice (posn period ph.0 (a k)) n ≡ worst_of period slice n = λ n. ap (λ (q : ℕ). wait_at period slice q n) ph.2 ∙ at.2 n in
-        let last : get_or times i 0 ≤ t = omega (arith, ((rs i (omega arith)).arrived refl).1, m.covers i (omega arith)) in
-        record {
-          server = f;
-          its_period = refl;
-          its_slice = refl;
-          some = λ slots room. some_run f time case.time_pos slots room times case.few case.never_fall i case.firing (omega (arith, case.near)) t last case.near;
-          each = λ slots room. ends_at f time case.time_pos slots i k (a k) t ki m.met.2 there times (at_time k ki (rs k ki).met) (finish a fs ds rs m);
-        }
+        (ph.0, ph.1, attained_in f time times i t case k (a k) ki (at_time k ki (rs k ki).met) m.met.2 there)
       where
         at_time : (k : ℕ) → k ≤ i → (a k ≡ 0) ⊎ ((true ≡ true) × (a k ≡ get_or times k 0)) ⊎ ((e : ℕ) × Feeds (lone time) 0 k e × (a k ≡ fs k e)) → get_or times k 0 ≡ a k
         at_time k h (inl q) = omega (arith, ((rs k h).arrived refl).1)
@@ -269,12 +281,48 @@ exact period slice time times i t case = by case.bound
 
 pub no_smaller : NoSmaller
 no_smaller period slice time times i t case u less =
-    let met = exact period slice time times i t case in
+    let (ph, below, met) = exact period slice time times i t case in
     record {
+      phase = ph;
+      below = below;
       server = met.server;
-      its_period = met.its_period;
-      its_slice = met.its_slice;
+      starts = met.starts;
       run = λ slots room.
           let r = met.some slots room in
           (r, λ c l ended. (met.each slots room r.said r.rack r.whole r.run r.meets).not_before c (omega arith) ended);
     }
+
+-- the worked figure
+abbrev worked : List ℕ
+worked = 0 ∷ 5 ∷ 40 ∷ []
+
+worked_falls : (j k : ℕ) → j ≤ k → k < 3 → get_or worked j 0 ≤ get_or worked k 0
+worked_falls zero k h l = omega arith
+worked_falls (suc j) zero h l = absurd (omega arith)
+worked_falls (suc zero) (suc zero) h l = omega arith
+worked_falls (suc zero) (suc (suc zero)) h l = omega arith
+worked_falls (suc zero) (suc (suc (suc k))) h l = absurd (omega arith)
+worked_falls (suc (suc zero)) (suc zero) h l = absurd (omega arith)
+worked_falls (suc (suc zero)) (suc (suc zero)) h l = omega arith
+worked_falls (suc (suc zero)) (suc (suc (suc k))) h l = absurd (omega arith)
+worked_falls (suc (suc (suc j))) (suc k) h l = absurd (omega arith)
+
+worked_case : Case 10 4 6 worked 1 30
+worked_case = record {
+  some = omega arith;
+  within = omega arith;
+  short = omega arith;
+  time_pos = omega arith;
+  few = omega arith;
+  never_fall = worked_falls;
+  firing = omega arith;
+  bound = lone_bounds 6 (λ m. worst_of 10 4 (m * 6)) worked 1 (omega arith);
+  near = omega arith;
+}
+
+-- firings 0 and 1 are served back to back from clock 0, where the slice has just closed
+pub phase_4 : Phase4
+phase_4 =
+    let f : Fixed = record { slice = record { period = 10; ticks = 4; some = omega arith; within = omega arith; short = omega arith }; position = 4; passed = omega arith } in
+    let there : (n : ℕ) → wait_at 10 4 (posn 10 4 0) n ≡ worst_of 10 4 n = λ n. ap (λ (q : ℕ). wait_at 10 4 q n) (posn_none 10 4) ∙ worst_after 10 4 (omega arith) (omega arith) (omega arith) n in
+    (worked_case, attained_in f 6 worked 1 30 worked_case 0 0 (omega arith) refl refl there)

@@ -47,15 +47,24 @@ pub record EndsAt (s : State) (i t : ℕ) : Type 0 where
   pub then : Ended s 0 i t
   pub not_before : (c : ℕ) → c < t → Ended s 0 i c → ⊥
 
--- For some phase of the slice, firing i ends exactly at t in every run that meets this, and there is such a run.
-pub record Attained (period slice time : ℕ) (times : List ℕ) (i t : ℕ) : Type 0 where
+-- The slice of this period in this phase, not ticked before: its position is its phase, as `Fixed::new` makes it.
+pub record InPhase (period slice phase : ℕ) (f : Fixed) : Type 0 where
+  pub its_period : f.slice.period ≡ period
+  pub its_slice : f.slice.ticks ≡ slice
+  pub its_phase : f.position ≡ phase
+
+-- In this phase of the slice, firing i ends exactly at t in every run that meets this, and there is such a run.
+pub record AttainedIn (period slice phase time : ℕ) (times : List ℕ) (i t : ℕ) : Type 0 where
   pub server : Fixed
-  pub its_period : server.slice.period ≡ period
-  pub its_slice : server.slice.ticks ≡ slice
+  pub starts : InPhase period slice phase server
   pub some : (slots : ℕ) → 1 ≤ slots → SomeRun time server slots times i t
   pub each :
       (slots : ℕ) → 1 ≤ slots → (said : List Said) (a : One Fixed) (x : Whole) → Run slice_steps (lone time) (record { server = server }) slots said a x →
       Meets time times i t said → EndsAt x.state i t
+
+-- So it is in some phase.
+abbrev pub Attained : ℕ → ℕ → ℕ → List ℕ → ℕ → ℕ → Type 0
+Attained period slice time times i t = (phase : ℕ) × (phase < period) × AttainedIn period slice phase time times i t
 
 -- Of a legal slice and 1 to 256 arrival times that never fall: t, at most 1,000,000,000, is the finish bound of firing i.
 pub record Case (period slice time : ℕ) (times : List ℕ) (i t : ℕ) : Type 0 where
@@ -75,11 +84,16 @@ Exact = (period slice time : ℕ) (times : List ℕ) (i t : ℕ) → Case period
 
 -- In some phase and some run that meets the arrivals and comes to t, firing i has not ended by u.
 pub record Later (period slice time : ℕ) (times : List ℕ) (i t u : ℕ) : Type 0 where
+  pub phase : ℕ
+  pub below : phase < period
   pub server : Fixed
-  pub its_period : server.slice.period ≡ period
-  pub its_slice : server.slice.ticks ≡ slice
+  pub starts : InPhase period slice phase server
   pub run : (slots : ℕ) → 1 ≤ slots → (r : SomeRun time server slots times i t) × ((c : ℕ) → c ≤ u → Ended r.whole.state 0 i c → ⊥)
 
 -- So no smaller bound is true in all phases.
 abbrev pub NoSmaller : Type 0
 NoSmaller = (period slice time : ℕ) (times : List ℕ) (i t : ℕ) → Case period slice time times i t → (u : ℕ) → u < t → Later period slice time times i t u
+
+-- A worked figure: of the slice 4 of 10, with time 6 and arrivals at 0, 5 and 40, the finish bound of firing 1 is 30, and in phase 4 it ends at 30.
+abbrev pub Phase4 : Type 0
+Phase4 = Case 10 4 6 (0 ∷ 5 ∷ 40 ∷ []) 1 30 × AttainedIn 10 4 4 6 (0 ∷ 5 ∷ 40 ∷ []) 1 30

@@ -29,16 +29,19 @@ sample_net = record {
 abbrev pub SampleRack : Type 0
 SampleRack = SideBySide (One Fixed) (One Own)
 
--- Its two places, what they offer, and its ticks: those of the slice at place 0, and of the processor at place 1.
+-- It has two places.
 abbrev pub sample_places : SampleRack → ℕ
 sample_places a = places_beside 1 1
 
+-- Place 0 offers what the slice does, place 1 what the processor does.
 abbrev pub sample_service : SampleRack → ℕ → Service
 sample_service a = beside 1 (slice_at a.first) (λ v. own_service a.second.server)
 
+-- A tick is one of the processor, at its place 0.
 abbrev pub own_steps : One Own → ℕ → Bool → Bool → One Own → Type 0
 own_steps a k claimed granted b = (k ≡ 0) × OwnSteps a.server claimed granted b.server
 
+-- A tick of the rack is one of the slice at place 0, or of the processor at place 1; the other stays as it was.
 abbrev pub sample_steps : SampleRack → ℕ → Bool → Bool → SampleRack → Type 0
 sample_steps a k claimed granted b = Sided slice_steps own_steps 1 a.first a.second k claimed granted b.first b.second
 
@@ -53,7 +56,7 @@ abbrev pub sample_calls : ℕ → List Said
 sample_calls zero = done (arrive 0) ∷ []
 sample_calls (suc m) = done (tick (false ∷ false ∷ [])) ∷ sample_calls m
 
--- 21 and 30
+-- The start figures of its tasks: 21 and 30.
 abbrev pub sample_start : ℕ → ℕ
 sample_start v = cond (v == 0) 21 30
 

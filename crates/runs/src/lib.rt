@@ -1,7 +1,8 @@
 #![tactic(auto)]
 
+ghost use Rattle.flow.specs.FinishLaws.{GraphsSound};
 ghost use Rattle.runs.specs.Claims.{OnTime, Paced, Steady, Records, NotEarly};
-ghost use Rattle.runs.specs.Exact.{Exact, NoSmaller, slice_at, slice_steps};
+ghost use Rattle.runs.specs.Exact.{Exact, NoSmaller, Phase4, slice_at, slice_steps};
 ghost use Rattle.runs.specs.Sample.{Sample, sample_places, sample_service, sample_steps};
 
 use racks::one::One;
@@ -13,15 +14,19 @@ use servers::own::Own;
 /// The promise, of every rack. `timely`: a firing is finished at its finish bound at the latest.
 /// `paced`: where arrivals keep to the cycle, firing i is finished by its start figure and i cycles.
 /// `exact`: one task alone on a fixed slice ends exactly at its bound in some phase.
+/// `smaller`: so no bound below that of `exact` is true in all phases.
 /// `steady`: the figures that these speak of are the same before a run and after it.
+/// `sound`: the net of every accepted graph is one of those that these speak of.
 pub fn promise<R: Rack>()
     ensures timely { OnTime R.Rack.places R.Rack.service R.Rack.steps }
     ensures paced { Paced R.Rack.places R.Rack.service R.Rack.steps }
     ensures exact { Exact }
+    ensures smaller { NoSmaller }
     ensures steady { Steady R.Rack.places R.Rack.service R.Rack.steps }
+    ensures sound { GraphsSound }
 {}
 
-/// So no bound below that of `exact` is true in all phases.
+/// The clause `smaller` by itself: it speaks of no rack that a caller would have to name.
 pub fn no_smaller()
     ensures { NoSmaller }
 {}
@@ -32,6 +37,8 @@ pub fn slice_promise()
     ensures timely { OnTime (λ _. 1) slice_at slice_steps }
     ensures paced { Paced (λ _. 1) slice_at slice_steps }
     ensures exact { Exact }
+    ensures smaller { NoSmaller }
+    ensures steady { Steady (λ _. 1) slice_at slice_steps }
 {
     promise::<One<Fixed>>();
 }
@@ -48,11 +55,18 @@ pub fn sample_run()
     ensures { Sample }
 {}
 
+/// `exact` in a worked figure: one task alone with time 6, arrivals at 0, 5 and 40, on the slice 4 of 10. In phase 4 its firing 1 ends at 30, its finish bound.
+pub fn worked_phase()
+    ensures { Phase4 }
+{}
+
 /// The promise of the sample's rack: its ticks are those of `sample_run`.
 pub fn sample_promise()
     ensures timely { OnTime sample_places sample_service sample_steps }
     ensures paced { Paced sample_places sample_service sample_steps }
     ensures exact { Exact }
+    ensures smaller { NoSmaller }
+    ensures steady { Steady sample_places sample_service sample_steps }
 {
     promise::<SideBySide<One<Fixed>, One<Own>>>();
 }

@@ -1,7 +1,8 @@
 -- The promise holds on every rack.
+use Rattle.flow.proofs.FinishRule.{graphs_sound}
 use Rattle.runs.proofs.Forget.{Shows, on_time, steady}
 use Rattle.runs.proofs.Pace.{paced}
-use Rattle.runs.proofs.Exact.{exact}
+use Rattle.runs.proofs.Exact.{exact, no_smaller}
 use Rattle.runs.proofs.promise.Given as given
 use Rattle.runs.proofs.promise.Goals as goal
 
@@ -13,5 +14,7 @@ returns g c = record {
   timely = on_time g.R.Rack.places g.R.Rack.service g.R.Rack.steps (shows g);
   paced = paced g.R.Rack.places g.R.Rack.service g.R.Rack.steps (shows g);
   exact = exact;
+  smaller = no_smaller;
   steady = steady g.R.Rack.places g.R.Rack.service g.R.Rack.steps (shows g);
+  sound = graphs_sound;
 }
