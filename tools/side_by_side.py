@@ -20,6 +20,9 @@ def clauses(kind, cs):
 
 fns = {}
 for name, old, new in d["signatures changed"]:
+    if (old, new) == ("() -> u8", "()"):
+        # told in words on the page
+        continue
     fns.setdefault(name, ([], []))
     fns[name][0].append(old)
     fns[name][1].append(new)
@@ -38,8 +41,7 @@ def block(entries):
     return "\n".join(out)
 
 
-unit = [n for n, o, w in d["signatures changed"] if n.split()[0] in ("flow", "runs")]
-rest = [(n, o, w) for n, (o, w) in fns.items() if n not in unit]
+rest = [(n, o, w) for n, (o, w) in fns.items()]
 public = [e for e in rest if is_public(e[0].split()[0], e[0])]
 own = [e for e in rest if e not in public]
 print("**Public functions, signatures and clauses**\n")
