@@ -42,6 +42,7 @@ impl Job {
 
     // The tick at which the last of the work was granted.
     fn finish(&self) -> u64 {
+        // 0 where nothing was granted, which cannot be: there is work.
         self.times.last().copied().unwrap_or(0)
     }
 }

@@ -35,6 +35,7 @@ pub(crate) fn task_table(lines: &mut NumberedLines<'_>, entries: &mut Entries) -
     ensures { Meets result (task_table (names entries.old) (left lines.old)) (λ _. (entries.new ≡ entries.old ++ map entry_of (up_to_empty (drop 1 (left lines.old)))) × Stands (6 + length entries.new) (past_empty (drop 1 (left lines.old))) lines.new) }
 {
     lines.heading(Table::Tasks)?;
+    // A loop, and no `for`: a text that ends among the tasks is refused at the missing line.
     loop {
         let line = lines.wanted()?;
         if line.is_gap() {

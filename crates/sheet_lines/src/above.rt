@@ -13,6 +13,7 @@ use sheets::sheet::SheetTask;
 use std::marker::Model;
 
 /// The tasks that stand above a line. Clauses see them as the list of their names.
+// Handed over beside the line, and not in one value with it: a heading, an empty line and the goal's have none above.
 #[derive(Drop)]
 pub struct Above<'a> {
     pub tasks: &'a [SheetTask],
