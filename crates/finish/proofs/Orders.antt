@@ -1,10 +1,10 @@
 -- A row of the table: the tasks in their order.
-use Rattle.std.proofs.Common.{◌≡◌, ◌≢◌, ℕ, suc, ◌+◌, ◌-◌, ◌*◌, ◌<◌, ◌≤◌, Bool, true, false, List, length, set, get_or, refl, sym, ap, ◌∙◌, subst, vec_items, vec_len, get_or-set_same, true≢false, arith}
+use Rattle.std.proofs.Common.{◌≡◌, ℕ, ◌+◌, ◌-◌, ◌*◌, ◌<◌, ◌≤◌, false, List, length, set, get_or, sym, ap, ◌∙◌, subst, vec_len, get_or-set_same, true≢false, arith}
 use Rattle.std.proofs.lemmas.Bool.Decides.{nat_tests}
 use native.Mathlib.Decide.{ℕ_discrete}
 use Rattle.graph.specs.declared.graph.Graph.{Graph}
 use Rattle.flow.specs.Nets.{Net, Arrivals, net_of}
-use Rattle.flow.specs.Finish.{Cost, Feeds, Finish}
+use Rattle.flow.specs.Finish.{Cost, Feeds}
 use Rattle.finish.proofs.Steps.{cell}
 use Rattle.finish.proofs.Tells.{entry_more}
 use Rattle.finish.specs.Table.{SomeAbove}

@@ -1,10 +1,10 @@
 -- What is kept of a ready time and of a finish bound, from what is kept of those before.
-use Rattle.std.proofs.Common.{◌≡◌, ◌≢◌, ℕ, zero, suc, ◌+◌, ◌-◌, ◌*◌, ◌<◌, ◌≤◌, min, Bool, true, false, cond, ◌⊎◌, List, length, set, get_or, refl, sym, ap, subst, inl, inr, arith, length-set, get_or-set_same, get_or-set_other, mul-le-mul_right}
+use Rattle.std.proofs.Common.{◌≡◌, ◌≢◌, ℕ, suc, ◌+◌, ◌-◌, ◌*◌, ◌<◌, ◌≤◌, Bool, true, false, ◌⊎◌, List, length, set, get_or, refl, sym, ap, subst, inl, inr, arith, length-set, get_or-set_same, get_or-set_other, mul-le-mul_right}
 use Rattle.std.proofs.lemmas.Bool.{cases_lt}
 use Rattle.std.proofs.lemmas.Bool.Decides.{nat_tests}
-use native.Mathlib.Decide.{ℕ_discrete, dec_lt}
+use native.Mathlib.Decide.{ℕ_discrete}
 use Rattle.flow.specs.Nets.{Net, Arrivals}
-use Rattle.flow.specs.Finish.{Cost, Feeds, ReadyLargest, FinishLargest, Finish, finish, Ready}
+use Rattle.flow.specs.Finish.{Cost, Feeds, Finish, finish, Ready}
 use Rattle.flow.proofs.Bounds.{finish_le, ready_le, finish_ready, make_ready, make_finish}
 use Rattle.finish.proofs.Steps.{cell}
 use Rattle.finish.specs.Filling.{IsLargest, capped, entry, ReadyTold, FinishTold, WaitsTold, Partly, Came, Fed, more, Kept, Shaped, Stepped}

@@ -5,7 +5,7 @@ use Rattle.flow.specs.Nets.{Net}
 use Rattle.flow.specs.Finish.{Cost}
 use Rattle.finish.proofs.Steps.{cell}
 use Rattle.finish.proofs.Tells.{entry_more, kept_set}
-use Rattle.finish.specs.Filling.{capped, entry, WaitsTold, more, Kept, Waiting, done_in}
+use Rattle.finish.specs.Filling.{capped, WaitsTold, more, Kept, Waiting, done_in}
 
 module _ (g : Net) (cost : Cost) (n : ℕ) where
   waiting_less : (done done' : ℕ → ℕ) (xs : List ℕ) → ((u : ℕ) → u < g.tasks → done' u ≤ done u) → Waiting g cost n done xs → Waiting g cost n done' xs

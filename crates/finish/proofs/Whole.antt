@@ -1,5 +1,5 @@
 -- The whole table.
-use Rattle.std.proofs.Common.{◌≡◌, ℕ, ◌+◌, ◌*◌, ◌<◌, ◌≤◌, Bool, true, false, List, length, get_or, replicate, ap, subst, sym, arith}
+use Rattle.std.proofs.Common.{◌≡◌, ℕ, ◌<◌, ◌≤◌, Bool, List, get_or, replicate, subst, sym, arith}
 use Rattle.std.proofs.lemmas.List.{get_or-replicate, get_or_past}
 use native.Mathlib.Decide.{dec_lt}
 use lib.ListN.{length-replicate}

@@ -1,19 +1,23 @@
 -- A finish table that is filled in part: what its entries stand for, and what a step adds.
-use Rattle.std.specs.Prelude.{◌≡◌, ℕ, suc, ◌+◌, ◌-◌, ◌*◌, ◌<◌, ◌≤◌, min, Bool, true, false, cond, ◌⊎◌, ◌==◌, nat_lt, List, length, slice_index, vec_len}
+use Rattle.std.specs.Prelude.{◌≡◌, ℕ, suc, ◌+◌, ◌-◌, ◌*◌, ◌<◌, ◌≤◌, min, Bool, true, false, cond, ◌⊎◌, ◌==◌, nat_lt, List, length, slice_index}
 use Rattle.servers.specs.Figures.{ceiling}
 use Rattle.graph.specs.declared.graph.Graph.{Graph}
-use Rattle.flow.specs.Nets.{Net, Arrivals, net_of}
+use Rattle.flow.specs.Nets.{Net, Arrivals}
 use Rattle.flow.specs.Finish.{Cost, Feeds, Ready, Finish}
 use Rattle.finish.specs.Table.{inlets, Low, AllTold, SomeAbove}
 pub use Rattle.finish.specs.Table.{entry}
 
--- A figure as it is kept: itself up to the ceiling, and one more than the ceiling for all that is above.
+-- What is kept of every figure above the ceiling: one more than the ceiling.
+abbrev pub kept_above : ℕ
+kept_above = 1000000000001
+
+-- A figure as it is kept.
 abbrev pub capped : ℕ → ℕ
-capped x = min x 1000000000001
+capped x = min x kept_above
 
 -- No entry is past what is kept.
 pub record Kept (xs : List ℕ) : Type 0 where
-  pub at : (k : ℕ) → slice_index xs k ≤ 1000000000001
+  pub at : (k : ℕ) → slice_index xs k ≤ kept_above
 
 -- x is the largest of b and f e over those e below m that P picks.
 pub record IsLargest (P : ℕ → Type 0) (f : ℕ → ℕ) (b m x : ℕ) : Type 0 where

@@ -1,10 +1,10 @@
 ghost use Rattle.std.specs.Prelude.{◌≡◌, ℕ, ◌+◌, ◌*◌, ◌<◌, ◌≤◌, length, vec_len};
 ghost use Rattle.flow.specs.Nets.{net_of};
 ghost use Rattle.finish.specs.Table.{arrivals};
-ghost use Rattle.finish.specs.Filling.{Came, Shaped, Timed, Went};
+ghost use Rattle.finish.specs.Filling.{Came, Shaped, Timed, Went, kept_above};
 
 use crate::checks::inlets;
-use crate::step::step;
+use crate::step::Waits;
 use graph::graph::Graph;
 use servers::figures::CEILING;
 
@@ -15,7 +15,7 @@ fn arrival(graph: &Graph, n: usize, times: &[u64], v: usize, i: usize) -> u64
     requires firing { i < n }
     requires short { n ≤ 256 }
     ensures came { Came (net_of graph.now) (arrivals graph.now n times.now) v i result }
-    ensures kept { result ≤ 1000000000001 }
+    ensures kept { result ≤ kept_above }
 {
     if graph.tasks[v].inlet {
         times[inlets(&graph.tasks[..v]) * n + i]
@@ -25,24 +25,17 @@ fn arrival(graph: &Graph, n: usize, times: &[u64], v: usize, i: usize) -> u64
 }
 
 /// Firing i of every task, those first that feed others by edges without tokens; false where a bound is above the ceiling.
-fn fill_row(
-    graph: &Graph,
-    n: usize,
-    times: &[u64],
-    worst: &[u64],
-    ready: &mut [u64],
-    table: &mut [u64],
-    i: usize,
-) -> bool
-    requires shaped { Shaped (net_of graph.now) n worst.now ready.old table.old }
-    requires timed { Timed graph.now n times.now }
-    requires firing { i < n }
-    ensures { Went (net_of graph.now) (arrivals graph.now n times.now) n worst.now (λ _. i) ready.old table.old (λ _. i + 1) ready.new table.new result }
+fn fill_row(waits: &Waits, times: &[u64], ready: &mut [u64], table: &mut [u64], i: usize) -> bool
+    requires shaped { Shaped (net_of waits.now.graph.now) waits.now.n waits.now.worst.now ready.old table.old }
+    requires timed { Timed waits.now.graph.now waits.now.n times.now }
+    requires firing { i < waits.now.n }
+    ensures { Went (net_of waits.now.graph.now) (arrivals waits.now.graph.now waits.now.n times.now) waits.now.n waits.now.worst.now (λ _. i) ready.old table.old (λ _. i + 1) ready.new table.new result }
 {
+    let graph = waits.graph;
     for p in 0..graph.tasks.len() {
         let v = graph.order.list[p];
-        let arrival = arrival(graph, n, times, v, i);
-        if step(graph, n, worst, ready, table, v, i, arrival) > CEILING {
+        let arrival = arrival(graph, waits.n, times, v, i);
+        if waits.step(ready, table, v, i, arrival) > CEILING {
             return false;
         }
     }
@@ -50,20 +43,13 @@ fn fill_row(
 }
 
 /// Every firing below n of every task; false where a bound is above the ceiling.
-pub(crate) fn fill_rows(
-    graph: &Graph,
-    n: usize,
-    times: &[u64],
-    worst: &[u64],
-    ready: &mut [u64],
-    table: &mut [u64],
-) -> bool
-    requires shaped { Shaped (net_of graph.now) n worst.now ready.old table.old }
-    requires timed { Timed graph.now n times.now }
-    ensures { Went (net_of graph.now) (arrivals graph.now n times.now) n worst.now (λ _. 0) ready.old table.old (λ _. n) ready.new table.new result }
+pub(crate) fn fill_rows(waits: &Waits, times: &[u64], ready: &mut [u64], table: &mut [u64]) -> bool
+    requires shaped { Shaped (net_of waits.now.graph.now) waits.now.n waits.now.worst.now ready.old table.old }
+    requires timed { Timed waits.now.graph.now waits.now.n times.now }
+    ensures { Went (net_of waits.now.graph.now) (arrivals waits.now.graph.now waits.now.n times.now) waits.now.n waits.now.worst.now (λ _. 0) ready.old table.old (λ _. waits.now.n) ready.new table.new result }
 {
-    for i in 0..n {
-        if !fill_row(graph, n, times, worst, ready, table, i) {
+    for i in 0..waits.n {
+        if !fill_row(waits, times, ready, table, i) {
             return false;
         }
     }

@@ -6,6 +6,7 @@ ghost use Rattle.finish.specs.Filling.{Filled, Timed};
 
 use crate::checks::{MOST_FIRINGS, all_rise, inlets, low, sized};
 use crate::rows::fill_rows;
+use crate::step::Waits;
 use crate::waits::worst_waits;
 use faults::fault::Fault;
 use faults::layer::Layer;
@@ -27,7 +28,12 @@ fn fill<R: Rack>(graph: &Graph, rack: &R, n: usize, times: &[u64], table: &mut [
     let mut ready = [0; MOST_TASKS * MOST_FIRINGS];
     table.fill(0);
     worst_waits(graph, rack, n, &mut worst);
-    fill_rows(graph, n, times, &worst, &mut ready, table)
+    let waits = Waits {
+        graph,
+        n,
+        worst: &worst,
+    };
+    fill_rows(&waits, times, &mut ready, table)
 }
 
 /// Writes the finish bound of firing i of task v at `v * n + i`, for every task and i below n, where each inlet has n arrivals:

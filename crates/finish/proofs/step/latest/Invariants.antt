@@ -1,5 +1,5 @@
 -- The largest over the firings so far.
-use Rattle.std.proofs.Common.{ℕ, ◌+◌, ◌-◌, get_or}
+use Rattle.std.proofs.Common.{◌+◌, ◌-◌, get_or}
 use Rattle.finish.specs.Filling.{IsLargest}
 use Rattle.finish.proofs.step.latest.Given as goal
 

@@ -1,5 +1,5 @@
 -- The rack is refused as the graph refuses it.
-use Rattle.std.proofs.Common.{◌≡◌, refl, rules}
+use Rattle.std.proofs.Common.{refl}
 use Rattle.std.proofs.lemmas.Result.{err_from_is_err_and}
 use Rattle.finish.specs.Table.{rack}
 use Rattle.finish.proofs.table.finish_table.Goals as goal

@@ -1,5 +1,4 @@
 -- The waits told so far.
-use Rattle.std.proofs.Common.{ℕ, ◌≤◌, ◌*◌, length, vec_len}
 use Rattle.flow.specs.Nets.{net_of}
 use Rattle.flow.specs.Finish.{by_worst}
 use Rattle.finish.specs.Filling.{Waiting, done_in}

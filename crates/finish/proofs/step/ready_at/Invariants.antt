@@ -1,9 +1,0 @@
--- The largest over the edges so far.
-use Rattle.std.proofs.Common.{ℕ, ◌-◌}
-use Rattle.flow.specs.Nets.{net_of}
-use Rattle.flow.specs.Finish.{Feeds}
-use Rattle.finish.specs.Filling.{IsLargest, entry}
-use Rattle.finish.proofs.step.ready_at.Given as goal
-
-abbrev pub invariant-loop-edge : goal.invariant-loop-edge
-invariant-loop-edge l = IsLargest (Feeds (net_of l.graph) l.v l.i) (λ e. entry l.table l.n ((net_of l.graph).from e) (l.i - (net_of l.graph).tokens e)) l.arrival l.edge-index l.ready
