@@ -1,0 +1,5 @@
+mod Steps
+mod Tells
+mod Orders
+mod Waitings
+mod Whole

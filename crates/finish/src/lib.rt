@@ -1,0 +1,7 @@
+#![tactic(auto)]
+
+mod checks;
+mod rows;
+mod step;
+pub mod table;
+mod waits;
