@@ -1,12 +1,10 @@
 ghost use Rattle.std.specs.Prelude.{◌≡◌, ℕ, ◌+◌, ◌*◌, ◌<◌, ◌≤◌, ◌↔◌, IsTrue, length, count_by};
 ghost use Rattle.finish.specs.Table.{Low, Sized, Rises, has_inlet, inlets};
 
+use crate::table::MOST_FIRINGS;
 use graph::graph::Graph;
 use graph::parts::Task;
 use servers::figures::CEILING;
-
-/// The most firings of a task that a table holds.
-pub const MOST_FIRINGS: usize = 256;
 
 /// How many of the tasks have an inlet.
 pub(crate) fn inlets(tasks: &[Task]) -> usize

@@ -4,7 +4,7 @@ ghost use Rattle.flow.specs.Finish.{by_worst};
 ghost use Rattle.finish.specs.Table.{arrivals, Tabled};
 ghost use Rattle.finish.specs.Filling.{Filled, Timed};
 
-use crate::checks::{MOST_FIRINGS, all_rise, inlets, low, sized};
+use crate::checks::{all_rise, inlets, low, sized};
 use crate::rows::fill_rows;
 use crate::step::Waits;
 use crate::waits::worst_waits;
@@ -14,6 +14,9 @@ use faults::reason::Reason;
 use graph::graph::Graph;
 use graph::parts::MOST_TASKS;
 use racks::rack::Rack;
+
+/// The most firings of a task that a table holds.
+pub const MOST_FIRINGS: usize = 256;
 
 /// Fills the table over what it held; false where a bound is above the ceiling.
 fn fill<R: Rack>(graph: &Graph, rack: &R, n: usize, times: &[u64], table: &mut [u64]) -> bool
@@ -38,6 +41,7 @@ fn fill<R: Rack>(graph: &Graph, rack: &R, n: usize, times: &[u64], table: &mut [
 
 /// Writes the finish bound of firing i of task v at `v * n + i`, for every task and i below n, where each inlet has n arrivals:
 /// `times` has those of the first inlet, in task order, then those of the next.
+/// A refusal leaves the table as it was, but for a bound above the ceiling, which leaves zeros.
 pub fn finish_table<R: Rack>(
     graph: &Graph,
     rack: &R,
