@@ -1,0 +1,5 @@
+#![tactic(auto)]
+
+mod arcs;
+pub mod at_ratio;
+mod spans;
