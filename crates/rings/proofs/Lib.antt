@@ -1,2 +1,4 @@
 mod Filled
 mod Asked
+mod Growing
+mod Walked

@@ -22,7 +22,7 @@ pub enum AtRatio {
 }
 
 /// The same by the spans.
-fn search(graph: &Graph, spans: &[u64; MOST_TASKS], ratio: Ratio) -> AtRatio
+pub(crate) fn search(graph: &Graph, spans: &[u64; MOST_TASKS], ratio: Ratio) -> AtRatio
     requires { Told graph.now spans.now }
     ensures { (service : ℕ → Service) → Spans graph.now service spans.now → Finds (net_of graph.now) service ratio.cycle ratio.parts result }
 {

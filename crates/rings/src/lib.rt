@@ -2,4 +2,5 @@
 
 mod arcs;
 pub mod at_ratio;
+pub mod cycle;
 mod spans;

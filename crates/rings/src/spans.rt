@@ -1,4 +1,4 @@
-ghost use Rattle.rings.specs.Spans.{ReadsSpans};
+ghost use Rattle.rings.specs.Spans.{ReadsSpans, ReadsPaces};
 
 use faults::fault::Fault;
 use graph::figures::figures_at;
@@ -17,4 +17,16 @@ pub(crate) fn spans<R: Rack>(graph: &Graph, rack: &R) -> Result<[u64; MOST_TASKS
         spans[v] = figures.lead + figures.pace;
     }
     Ok(spans)
+}
+
+/// The pace of each task's server for the task's time, after the checks of the rack.
+pub(crate) fn paces<R: Rack>(graph: &Graph, rack: &R) -> Result<[u64; MOST_TASKS], Fault>
+    ensures { ReadsPaces graph.now (R.Rack.places rack.now) (R.Rack.service rack.now) result }
+{
+    graph.check_rack(rack)?;
+    let mut paces = [0; MOST_TASKS];
+    for (v, task) in graph.tasks.iter().enumerate() {
+        paces[v] = figures_at(rack, v, task.time)?.pace;
+    }
+    Ok(paces)
 }
