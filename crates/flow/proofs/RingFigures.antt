@@ -19,7 +19,7 @@ climbs n sound (end (link u) h) z = absurd (omega arith)
 climbs n sound (on (edge e) h c) z = omega (arith, sound.forward e h (omega arith), climbs n sound c (omega arith))
 climbs n sound (on (link u) h c) z = absurd (omega arith)
 
-tokened : (n : Net) → Sound n → (hops : List Hop) → Ring n hops → 1 ≤ tokens_on n hops
+pub tokened : (n : Net) → Sound n → (hops : List Hop) → Ring n hops → 1 ≤ tokens_on n hops
 tokened n sound hops r = go (le_or_lt (tokens_on n hops) 0)
   where
     go : (tokens_on n hops ≤ 0) ⊎ (0 < tokens_on n hops) → 1 ≤ tokens_on n hops

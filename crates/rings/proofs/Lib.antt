@@ -1,0 +1,4 @@
+mod Filled
+mod Asked
+mod Growing
+mod Walked

@@ -1,0 +1,37 @@
+-- Cycle over parts, a ring that reaches it, and the start figures, together.
+use Rattle.std.specs.Prelude.{◌≡◌, ℕ, ◌*◌, ◌<◌, List, [], ◌∷◌, map, slice_index, vec_len, Result, MatchResult}
+use Rattle.faults.specs.declared.fault.Fault.{Fault}
+use Rattle.servers.specs.Service.{Service}
+use Rattle.graph.specs.declared.graph.Graph.{Graph}
+use Rattle.graph.specs.Racked.{Racked, RefusesRack}
+use Rattle.flow.specs.Nets.{Net, net_of}
+use Rattle.flow.specs.Rings.{Hop, edge, link, weight, tokens_on, Ring, Cycle, Starts}
+use Rattle.walks.specs.Arcs.{arcs_of}
+use Rattle.walks.specs.declared.found.Walk.{Walk}
+use Rattle.rings.specs.declared.cycle.Critical.{Critical}
+use Rattle.rings.specs.declared.cycle.Critical.TheVariants as critical
+use Rattle.rings.specs.declared.cycle.RingFigures.{RingFigures}
+
+-- The arcs of a walk are edges of the graph.
+abbrev pub OnEdges : Graph → Walk → Type 0
+OnEdges g walk = (i : ℕ) → i < walk.count → slice_index walk.arcs i < vec_len g.edges
+
+-- The hops of the answered ring.
+abbrev pub hops_of : Critical → List Hop
+hops_of (critical.Link v) = link v ∷ []
+hops_of (critical.Edges walk) = map edge (arcs_of walk)
+
+-- A ring that has just cycle over parts ticks per token.
+pub record Reaches (n : Net) (service : ℕ → Service) (cycle parts : ℕ) (hops : List Hop) : Type 0 where
+  pub ring : Ring n hops
+  pub meets : parts * weight n service hops ≡ cycle * tokens_on n hops
+
+-- The figures are those of the net.
+pub record AreFigures (n : Net) (service : ℕ → Service) (f : RingFigures) : Type 0 where
+  pub cycle : Cycle n service f.ratio.cycle f.ratio.parts
+  pub ring : Reaches n service f.ratio.cycle f.ratio.parts (hops_of f.ring)
+  pub starts : Starts n service f.ratio.cycle f.ratio.parts (λ v. slice_index f.starts v)
+
+-- The same after the checks of the rack, whose refusal is told.
+abbrev pub AnswersFigures : Graph → ℕ → (ℕ → Service) → Result RingFigures Fault → Type 0
+AnswersFigures g places service r = MatchResult r (λ f. Racked g places service × AreFigures (net_of g) service f) (RefusesRack g places service)

@@ -1,0 +1,3 @@
+pub mod Spans
+pub mod AtRatios
+pub mod Cycles

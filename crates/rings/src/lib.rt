@@ -1,0 +1,6 @@
+#![tactic(auto)]
+
+mod arcs;
+pub mod at_ratio;
+pub mod cycle;
+mod spans;

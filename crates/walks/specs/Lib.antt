@@ -1,0 +1,2 @@
+pub mod ArcNet
+pub mod Arcs

@@ -1,0 +1,7 @@
+#![tactic(auto)]
+
+pub mod arcs;
+mod best;
+pub mod found;
+mod legal;
+mod search;
