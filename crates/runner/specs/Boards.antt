@@ -1,0 +1,36 @@
+-- What a board shows: a state of the model, without the history of arrivals and records.
+use Rattle.std.specs.Prelude.{◌≡◌, ℕ, ◌<◌, [], slice_index}
+use Rattle.flow.specs.Nets.{Net}
+use Rattle.runs.specs.States.{State, no_arrivals}
+use Rattle.runner.specs.Tasks.{to_go_at, task_in}
+use Rattle.runner.specs.declared.board.Board.{Board}
+
+abbrev pub shown : Board → State
+shown b = record {
+  clock = b.clock;
+  held = λ e. slice_index b.held e;
+  waiting = λ v. (task_in b.tasks v).waiting;
+  to_go = λ v. to_go_at (task_in b.tasks v).stage;
+  fired = λ v. (task_in b.tasks v).fired;
+  need = λ v. (task_in b.tasks v).need;
+  arrivals = no_arrivals;
+  records = [];
+}
+
+-- Two states are the same but for their history.
+pub record Same (s t : State) : Type 0 where
+  pub clock : s.clock ≡ t.clock
+  pub held : (e : ℕ) → s.held e ≡ t.held e
+  pub waiting : (v : ℕ) → s.waiting v ≡ t.waiting v
+  pub to_go : (v : ℕ) → s.to_go v ≡ t.to_go v
+  pub fired : (v : ℕ) → s.fired v ≡ t.fired v
+  pub need : (v : ℕ) → s.need v ≡ t.need v
+
+-- So they are at the tasks and edges of a net.
+pub record Alike (n : Net) (s t : State) : Type 0 where
+  pub clock : s.clock ≡ t.clock
+  pub held : (e : ℕ) → e < n.edges → s.held e ≡ t.held e
+  pub waiting : (v : ℕ) → v < n.tasks → s.waiting v ≡ t.waiting v
+  pub to_go : (v : ℕ) → v < n.tasks → s.to_go v ≡ t.to_go v
+  pub fired : (v : ℕ) → v < n.tasks → s.fired v ≡ t.fired v
+  pub need : (v : ℕ) → v < n.tasks → s.need v ≡ t.need v

@@ -1,0 +1,6 @@
+#![tactic(auto)]
+
+mod board;
+pub mod runner;
+mod task;
+pub mod unfit;
