@@ -1,2 +1,5 @@
 pub mod Calls
+pub mod Serving
+pub mod Sweeps
+pub mod Ticks
 pub mod Writes

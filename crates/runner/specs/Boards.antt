@@ -1,21 +1,25 @@
 -- What a board shows: a state of the model, without the history of arrivals and records.
-use Rattle.std.specs.Prelude.{◌≡◌, ℕ, ◌<◌, [], slice_index}
+use Rattle.std.specs.Prelude.{◌≡◌, ℕ, ◌<◌, List, [], slice_index}
 use Rattle.flow.specs.Nets.{Net}
 use Rattle.runs.specs.States.{State, no_arrivals}
 use Rattle.runner.specs.Tasks.{to_go_at, task_in}
 use Rattle.runner.specs.declared.board.Board.{Board}
+use Rattle.runner.specs.declared.task.TaskRecord.{TaskRecord}
 
-abbrev pub shown : Board → State
-shown b = record {
-  clock = b.clock;
-  held = λ e. slice_index b.held e;
-  waiting = λ v. (task_in b.tasks v).waiting;
-  to_go = λ v. to_go_at (task_in b.tasks v).stage;
-  fired = λ v. (task_in b.tasks v).fired;
-  need = λ v. (task_in b.tasks v).need;
+abbrev pub shown_of : ℕ → List TaskRecord → List ℕ → State
+shown_of clock ts held = record {
+  clock = clock;
+  held = λ e. slice_index held e;
+  waiting = λ v. (task_in ts v).waiting;
+  to_go = λ v. to_go_at (task_in ts v).stage;
+  fired = λ v. (task_in ts v).fired;
+  need = λ v. (task_in ts v).need;
   arrivals = no_arrivals;
   records = [];
 }
+
+abbrev pub shown : Board → State
+shown b = shown_of b.clock b.tasks b.held
 
 -- Two states are the same but for their history.
 pub record Same (s t : State) : Type 0 where

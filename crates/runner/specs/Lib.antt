@@ -1,3 +1,4 @@
 pub mod Tasks
+pub mod Serves
 pub mod Boards
 pub mod Runners

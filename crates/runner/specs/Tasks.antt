@@ -9,6 +9,7 @@ abbrev pub to_go_at : Stage → ℕ
 to_go_at Idle = 0
 to_go_at (UnderWay after) = after + 1
 
+-- A task that is not there.
 abbrev pub no_record : TaskRecord
 no_record = record { stage = Idle; waiting = 0; need = 0; fired = 0 }
 

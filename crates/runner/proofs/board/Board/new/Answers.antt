@@ -22,7 +22,8 @@ loop-v-preserved c =
       all_written (λ u (t : TaskRecord). t.fired ≡ 0) l.tasks l.v _ no_record there (i.1 l.v) i.1,
       all_written (λ u (t : TaskRecord). t.waiting ≡ 0) l.tasks l.v _ no_record there (i.2 l.v) i.2,
       all_written (λ u (t : TaskRecord). t.stage ≡ Idle) l.tasks l.v _ no_record there (i.3 l.v) i.3,
-      one_more_written (λ u (t : TaskRecord). t.need ≡ (task_at g.tasks.items u).time) l.tasks l.v _ no_record there same i.4,
+      all_written (λ u (t : TaskRecord). u < 16 → 1 ≤ t.need) l.tasks l.v _ no_record there (λ _. omega (arith, same, (g.ranges.times l.v (omega (arith, g.tasks.ok.0, counted))).0)) i.4,
+      one_more_written (λ u (t : TaskRecord). t.need ≡ (task_at g.tasks.items u).time) l.tasks l.v _ no_record there same i.5,
     )
 
 pub loop-e-init : goal.loop-e-init

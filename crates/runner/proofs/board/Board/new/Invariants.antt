@@ -12,6 +12,7 @@ invariant-loop-v l =
     × ((u : ℕ) → (task_in l.tasks u).fired ≡ 0)
     × ((u : ℕ) → (task_in l.tasks u).waiting ≡ 0)
     × ((u : ℕ) → (task_in l.tasks u).stage ≡ Idle)
+    × ((u : ℕ) → u < 16 → 1 ≤ (task_in l.tasks u).need)
     × ((u : ℕ) → u < l.v → (task_in l.tasks u).need ≡ (task_at l.graph.tasks.items u).time)
 
 abbrev pub invariant-loop-e : goal.invariant-loop-e
