@@ -1,4 +1,7 @@
+pub mod Alikes
 pub mod Calls
+pub mod Going
+pub mod Putting
 pub mod Serving
 pub mod Sweeps
 pub mod Ticks

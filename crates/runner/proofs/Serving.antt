@@ -1,5 +1,5 @@
 -- One task more is served.
-use Rattle.std.proofs.Common.{◌≡◌, ℕ, ◌+◌, ◌<◌, ◌≤◌, Bool, false, List, length, get_or, set, sym, refl, ◌∙◌, ap, inl, inr, arith, length-set, get_or-set_same, get_or-set_other, le_refl}
+use Rattle.std.proofs.Common.{◌≡◌, ℕ, ◌+◌, ◌<◌, Bool, false, List, length, set, sym, refl, ◌∙◌, inl, inr, arith, length-set, get_or-set_same, get_or-set_other, le_refl}
 use Rattle.std.proofs.lemmas.Bool.{cases_eq}
 use Rattle.runner.specs.declared.task.TaskRecord.{TaskRecord}
 use Rattle.runner.specs.Tasks.{task_in, no_record}
@@ -21,11 +21,11 @@ served_more ts us ready grants starts ends n a b u lu ls le there all served = (
     served = λ v h. elim (cases_eq v n) [
       | inl e ↦
           rw e (served_at (task_in us n) (task_in ts n) (marked ready n) (marked grants n) a b _ _ u _ (sym (all.rest n (le_refl n)))
-            (get_or-set_same starts n a false (omega arith)) (get_or-set_same ends n b false (omega arith)) (get_or-set_same us n u no_record (omega arith)) served)
+          (get_or-set_same starts n a false (omega arith)) (get_or-set_same ends n b false (omega arith)) (get_or-set_same us n u no_record (omega arith)) served)
       | inr e ↦
           served_at (task_in ts v) (task_in ts v) (marked ready v) (marked grants v) (marked starts v) (marked ends v) _ _ (task_in us v) _ refl
-            (get_or-set_other starts n v a false e) (get_or-set_other ends n v b false e) (get_or-set_other us n v u no_record e) (all.served v (omega arith))
+          (get_or-set_other starts n v a false e) (get_or-set_other ends n v b false e) (get_or-set_other us n v u no_record e) (all.served v (omega arith))
     ];
     rest = λ v h. get_or-set_other us n v u no_record (λ e. omega arith) ∙ all.rest v (omega arith);
-  }
+  },
 )

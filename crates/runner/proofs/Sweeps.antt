@@ -1,5 +1,5 @@
 -- One place more is swept.
-use Rattle.std.proofs.Common.{◌≡◌, ℕ, suc, ◌+◌, ◌<◌, ◌≤◌, Bool, false, List, length, get_or, set, slice_index_or, sym, subst, get_or-set_same, get_or-set_other, add-one, arith}
+use Rattle.std.proofs.Common.{◌≡◌, ℕ, suc, ◌+◌, ◌<◌, Bool, false, List, length, set, slice_index_or, sym, subst, get_or-set_same, get_or-set_other, add-one, arith}
 use Rattle.runs.specs.Runs.{Sweep, none, more}
 use Rattle.runner.specs.Serves.{marked}
 
@@ -15,6 +15,6 @@ module _ {R : Type 0} (steps : R → ℕ → Bool → Bool → R → Type 0) (cl
       Sweep steps claims (marked grants) a v b → steps b v (slice_index_or claims v false) given c → Sweep steps claims (marked (set grants v given)) a (v + 1) c
   sweep_more grants a b c v given there sweep step =
       let on : Sweep steps claims (marked (set grants v given)) a (suc v) c =
-        more (sweep_same (λ u h. sym (get_or-set_other grants v u given false (λ q. omega arith))) sweep)
-          (subst (λ (t : Bool). steps b v (slice_index_or claims v false) t c) (sym (get_or-set_same grants v given false there)) step) in
+      more (sweep_same (λ u h. sym (get_or-set_other grants v u given false (λ q. omega arith))) sweep)
+      (subst (λ (t : Bool). steps b v (slice_index_or claims v false) t c) (sym (get_or-set_same grants v given false there)) step) in
       subst (λ (n : ℕ). Sweep steps claims (marked (set grants v given)) a n c) (sym (add-one v)) on

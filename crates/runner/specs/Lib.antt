@@ -1,4 +1,5 @@
 pub mod Tasks
 pub mod Serves
 pub mod Boards
+pub mod Records
 pub mod Runners

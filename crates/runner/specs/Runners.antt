@@ -1,5 +1,5 @@
 -- How a runner stands for a run, and what its calls answer, change and make of every run.
-use Rattle.std.specs.Prelude.{◌≡◌, ℕ, ◌≤◌, Bool, List, [], ◌∷◌, vec_len, Option, Some, None, Ok, Err, Result, MatchResult}
+use Rattle.std.specs.Prelude.{◌≡◌, ℕ, ◌≤◌, Bool, List, [], ◌∷◌, ◌++◌, vec_len, Option, Some, None, Ok, Err, Result, MatchResult}
 use Rattle.faults.specs.Faults.{fault}
 use Rattle.faults.specs.Numbers.{number_of}
 use Rattle.faults.specs.declared.fault.Fault.{Fault}
@@ -8,8 +8,11 @@ use Rattle.servers.specs.Service.{Service}
 use Rattle.graph.specs.declared.graph.Graph.{Graph}
 use Rattle.graph.specs.Racked.{Racked, RefusesRack}
 use Rattle.flow.specs.Nets.{net_of}
-use Rattle.runs.specs.States.{State, new_state}
-use Rattle.runs.specs.Runs.{Call, Said, done, refused, Whole, Run}
+use Rattle.runs.specs.States.{State, new_state, ticked, put_out}
+use Rattle.runs.specs.Runs.{Call, Said, done, refused, Whole, Run, Sweep}
+use Rattle.belt.specs.Belts.{contents, room}
+use Rattle.runner.specs.Records.{lying}
+use Rattle.runner.specs.declared.record.Record.{Record}
 use Rattle.runner.specs.Boards.{shown, Alike}
 use Rattle.runner.specs.declared.runner.Runner.{Runner}
 use Rattle.runner.specs.declared.unfit.Unfit.{Unfit}
@@ -65,3 +68,32 @@ pub record GivenBack {R : Type 0} (places : R → ℕ) (service : R → ℕ → 
 
 abbrev pub Made : {R : Type 0} → (R → ℕ) → (R → ℕ → Service) → (R → ℕ → Bool → Bool → R → Type 0) → Graph → R → Result (Runner R) (Unfit R) → Type 0
 Made places service steps g rack result = MatchResult result (λ r. Racked g (places rack) (service rack) × Begins places steps g rack r) (GivenBack places service g rack)
+
+-- What the board shows, and these records on the belt.
+abbrev pub whole_with : {R : Type 0} → Runner R → List Record → Whole
+whole_with r rs = record { state = shown r.board; belt = lying rs }
+
+-- A tick that was done, of runner a with a belt, to runner b: by the rack's own ticks of the tasks' places, each with its claim, the rack comes to b's, where it has a place for each task; the board moves as the state does with these grants; and the records of the firings that end lie on the belt behind those before.
+pub record TickDone {R : Type 0} (places : R → ℕ) (steps : R → ℕ → Bool → Bool → R → Type 0) (a : Runner R) (before : List (Option Record)) (claims : List Bool) (b : Runner R) (after : List (Option Record)) : Type 0 where
+  pub its_graph : b.graph ≡ a.graph
+  pub grants : ℕ → Bool
+  pub sweep : vec_len a.graph.tasks ≤ places a.rack → Sweep steps claims grants a.rack (vec_len a.graph.tasks) b.rack
+  pub stands : Alike (net_of a.graph) (shown b.board) (ticked (net_of a.graph) grants (shown a.board))
+  pub records : lying (contents after) ≡ lying (contents before) ++ put_out (net_of a.graph) (shown a.board) grants (vec_len a.graph.tasks)
+  pub same_room : room after ≡ room before
+
+-- So it is of a tick that was done; a refused one leaves runner and belt as they were.
+abbrev pub Ticks : {R : Type 0} → (R → ℕ) → (R → ℕ → Bool → Bool → R → Type 0) → Runner R → List (Option Record) → List Bool → Result Unit Fault → Runner R → List (Option Record) → Type 0
+Ticks places steps a before claims (Ok _) b after = TickDone places steps a before claims b after
+Ticks places steps a before claims (Err _) b after = (b ≡ a) × (after ≡ before)
+
+-- Every run that led to runner a and this belt, with this call and its answer put on, leads to runner b and the belt after it.
+pub record LeadsOn {R : Type 0} (places : R → ℕ) (steps : R → ℕ → Bool → Bool → R → Type 0) (first : R) (slots : ℕ) (said : List Said) (r : Runner R) (records : List Record) : Type 0 where
+  pub whole : Whole
+  pub led : Led places steps first slots said r whole
+  pub its_belt : whole.belt ≡ lying records
+
+abbrev pub GoesOn : {R : Type 0} → (R → ℕ) → (R → ℕ → Bool → Bool → R → Type 0) → Runner R → List (Option Record) → Call → Result Unit Fault → Runner R → List (Option Record) → Type 0
+GoesOn {R} places steps a before call answer b after =
+    (first : R) (said : List Said) (x : Whole) → Led places steps first (room before) said a x → x.belt ≡ lying (contents before) →
+    LeadsOn places steps first (room before) (said_of call answer ∷ said) b (contents after)

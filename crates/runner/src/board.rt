@@ -23,7 +23,12 @@ pub(crate) struct Board {
 }
 
 // Ticks each of the first n tasks. The answer: where a firing starts, and where one ends.
-fn serve_all(tasks: &mut [TaskRecord; MOST_TASKS], n: usize, ready: &Marks, grants: &Marks) -> (Marks, Marks)
+fn serve_all(
+    tasks: &mut [TaskRecord; MOST_TASKS],
+    n: usize,
+    ready: &Marks,
+    grants: &Marks,
+) -> (Marks, Marks)
     requires few { n ≤ 16 }
     requires early { (v : ℕ) → (task_in tasks.old v).fired ≤ 1000000000 }
     requires some { (v : ℕ) → v < 16 → 1 ≤ (task_in tasks.old v).need }

@@ -2,6 +2,7 @@
 
 mod board;
 pub mod record;
+mod records;
 pub mod runner;
 mod serve;
 mod sweep;

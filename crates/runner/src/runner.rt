@@ -3,7 +3,11 @@ ghost use Rattle.faults.specs.Faults.{refusal};
 ghost use Rattle.faults.specs.declared.layer.Layer.TheVariants as layer;
 
 use crate::board::Board;
+use crate::record::Record;
+use crate::records::put_records;
+use crate::sweep::sweep;
 use crate::unfit::Unfit;
+use belt::belt::Belt;
 use faults::fault::Fault;
 use faults::layer::Layer;
 use faults::reason::Reason;
@@ -12,6 +16,9 @@ use racks::rack::Rack;
 
 /// The most arrivals that wait at an inlet.
 pub const MOST_WAITING: u64 = 65_535;
+
+/// The clock at which no further tick is done.
+pub const LAST_CLOCK: u64 = 1_000_000_000;
 
 /// A graph and a rack whose place v serves task v, and what became of their calls so far.
 #[derive(Drop)]
@@ -37,9 +44,10 @@ fn legal_need(ticks: u64, time: u64) -> bool
 impl<R: Rack> Runner<R> {
     ghost use Rattle.flow.specs.Nets.{net_of};
     ghost use Rattle.runs.specs.States.{arrived, need_set};
-    ghost use Rattle.runs.specs.Runs.{arrive as arrival, need as need_of, why};
+    ghost use Rattle.runs.specs.Runs.{arrive as arrival, need as need_of, tick as tick_with, why};
     ghost use Rattle.runner.specs.Boards.{shown};
-    ghost use Rattle.runner.specs.Runners.{Made, shown_whole, Answers, Turns, Goes};
+    ghost use Rattle.runner.specs.Runners.{Made, shown_whole, Answers, Turns, Goes, whole_with, Ticks, GoesOn};
+    ghost use Rattle.belt.specs.Belts.{contents, room};
 
     /// A new runner, with which a run begins. Where the rack does not fit the graph, both come back as they were.
     pub fn new(graph: Graph, rack: R) -> Result<Runner<R>, Unfit<R>>
@@ -81,6 +89,28 @@ impl<R: Rack> Runner<R> {
             return Err(refuses(Reason::NeedRange));
         }
         self.board.need(task, ticks);
+        Ok(())
+    }
+
+    /// One tick of every task's place, in order, with a claim of others for each. The records of the firings that end by it go on the belt.
+    pub fn tick(&mut self, claims: &[bool], belt: &mut Belt<'_, Record>) -> Result<(), Fault>
+        ensures answers { Answers (why (net_of self.old.graph) (room belt.old) (whole_with self.old (contents belt.old)) (tick_with claims.now)) result }
+        ensures turns { Ticks R.Rack.places R.Rack.steps self.old belt.old claims.now result self.new belt.new }
+        ensures goes { GoesOn R.Rack.places R.Rack.steps self.old belt.old (tick_with claims.now) result self.new belt.new }
+    {
+        let tasks = self.graph.tasks.len();
+        if claims.len() != tasks {
+            return Err(refuses(Reason::Missing));
+        }
+        if self.board.clock() >= LAST_CLOCK {
+            return Err(refuses(Reason::ClockSpent));
+        }
+        if belt.free() < tasks {
+            return Err(refuses(Reason::SlotsTaken));
+        }
+        let grants = sweep(&mut self.rack, claims);
+        let ends = self.board.tick(&self.graph, &grants);
+        put_records(belt, &self.board, &ends, tasks);
         Ok(())
     }
 }

@@ -16,10 +16,11 @@ loop-v-preserved g c =
           rw w.grants-is (
             length-set c.loop-v.grants c.loop-v.v w.in-Ok.granted ∙ i.0,
             λ h.
-              let old = i.1 h in
-              let k = w.in-Ok.ensures in
-              (g.met.R.Rack.stays _ _ _ _ _ k.1 ∙ old.0,
-               sweep_more g.R.Rack.steps c.args.claims.now c.loop-v.grants c.args.rack.now c.loop-v.rack c.tick.new.self c.loop-v.v w.in-Ok.granted (omega (arith, i.0, c.loop-v-test.true, c.requires)) old.1 k.1)
+                let old = i.1 h in
+                let k = w.in-Ok.ensures in (
+                  g.met.R.Rack.stays _ _ _ _ _ k.1 ∙ old.0,
+                  sweep_more g.R.Rack.steps c.args.claims.now c.loop-v.grants c.args.rack.now c.loop-v.rack c.tick.new.self c.loop-v.v w.in-Ok.granted (omega (arith, i.0, c.loop-v-test.true, c.requires)) old.1 k.1,
+                ),
           )
       | in-Err w ↦
           let k = w.in-Err.ensures in
