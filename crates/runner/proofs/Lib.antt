@@ -1,6 +1,7 @@
 pub mod Alikes
 pub mod Calls
 pub mod Going
+pub mod Kept
 pub mod Putting
 pub mod Serving
 pub mod Sweeps

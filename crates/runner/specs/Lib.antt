@@ -3,3 +3,4 @@ pub mod Serves
 pub mod Boards
 pub mod Records
 pub mod Runners
+pub mod Promises

@@ -45,7 +45,9 @@ impl<R: Rack> Runner<R> {
     ghost use Rattle.flow.specs.Nets.{net_of};
     ghost use Rattle.runs.specs.States.{arrived, need_set};
     ghost use Rattle.runs.specs.Runs.{arrive as arrival, need as need_of, tick as tick_with, why};
+    ghost use Rattle.runs.specs.Exact.{Exact, NoSmaller};
     ghost use Rattle.runner.specs.Boards.{shown};
+    ghost use Rattle.runner.specs.Promises.{Timely, InPace};
     ghost use Rattle.runner.specs.Runners.{Made, shown_whole, Answers, Turns, Goes, whole_with, Ticks, GoesOn};
     ghost use Rattle.belt.specs.Belts.{contents, room};
 
@@ -93,10 +95,15 @@ impl<R: Rack> Runner<R> {
     }
 
     /// One tick of every task's place, in order, with a claim of others for each. The records of the firings that end by it go on the belt.
+    /// `timely`: every firing whose finish bound is not above the clock is finished. `paced`: firing i is finished by its start figure and i cycles, where arrivals keep to the cycle.
+    /// `exact`: one task alone on a fixed slice ends exactly at its bound in some phase, so that no smaller bound is true in all phases.
     pub fn tick(&mut self, claims: &[bool], belt: &mut Belt<'_, Record>) -> Result<(), Fault>
         ensures answers { Answers (why (net_of self.old.graph) (room belt.old) (whole_with self.old (contents belt.old)) (tick_with claims.now)) result }
         ensures turns { Ticks R.Rack.places R.Rack.steps self.old belt.old claims.now result self.new belt.new }
         ensures goes { GoesOn R.Rack.places R.Rack.steps self.old belt.old (tick_with claims.now) result self.new belt.new }
+        ensures timely { Timely R.Rack.places R.Rack.service R.Rack.steps self.new }
+        ensures paced { InPace R.Rack.places R.Rack.service R.Rack.steps self.new }
+        ensures exact { Exact × NoSmaller }
     {
         let tasks = self.graph.tasks.len();
         if claims.len() != tasks {

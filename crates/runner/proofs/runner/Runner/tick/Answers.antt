@@ -11,6 +11,8 @@ use Rattle.runner.specs.Serves.{marked}
 use Rattle.runner.specs.Runners.{whole_with, TickDone}
 use Rattle.runner.proofs.Going.{misfit, spent, no_room, goes, refused_goes_on, tick_goes_on}
 use Rattle.runner.proofs.Alikes.{alike_self, ended_is}
+use Rattle.runs.proofs.Exact.{exact, no_smaller}
+use Rattle.runner.proofs.Kept.{timely, in_pace}
 use Rattle.runner.proofs.runner.Runner.tick.Given as given
 use Rattle.runner.proofs.runner.Runner.tick.Goals as goal
 
@@ -107,3 +109,39 @@ returns-clause-turns g c = done_so g c
 
 pub returns-clause-goes : goal.returns-clause-goes
 returns-clause-goes g c = tick_goes_on g.R.Rack.places g.R.Rack.steps c.args.self.now c.args.belt.now c.args.claims.now g.R.Rack.service (shows g) _ c.put_records.new.belt (done_so g c) (open_to g c)
+
+pub returns-then-claims-tasks-clause-timely : goal.returns-then-claims-tasks-clause-timely
+returns-then-claims-tasks-clause-timely g c = timely g.R.Rack.places g.R.Rack.service g.R.Rack.steps (shows g) _
+
+pub returns-then-claims-tasks-clause-paced : goal.returns-then-claims-tasks-clause-paced
+returns-then-claims-tasks-clause-paced g c = in_pace g.R.Rack.places g.R.Rack.service g.R.Rack.steps (shows g) _
+
+pub returns-then-claims-tasks-clause-exact : goal.returns-then-claims-tasks-clause-exact
+returns-then-claims-tasks-clause-exact g c = (exact, no_smaller)
+
+pub returns-then-clock-ge-LAST_CLOCK-clause-timely : goal.returns-then-clock-ge-LAST_CLOCK-clause-timely
+returns-then-clock-ge-LAST_CLOCK-clause-timely g c = timely g.R.Rack.places g.R.Rack.service g.R.Rack.steps (shows g) _
+
+pub returns-then-clock-ge-LAST_CLOCK-clause-paced : goal.returns-then-clock-ge-LAST_CLOCK-clause-paced
+returns-then-clock-ge-LAST_CLOCK-clause-paced g c = in_pace g.R.Rack.places g.R.Rack.service g.R.Rack.steps (shows g) _
+
+pub returns-then-clock-ge-LAST_CLOCK-clause-exact : goal.returns-then-clock-ge-LAST_CLOCK-clause-exact
+returns-then-clock-ge-LAST_CLOCK-clause-exact g c = (exact, no_smaller)
+
+pub returns-then-free-tasks-clause-timely : goal.returns-then-free-tasks-clause-timely
+returns-then-free-tasks-clause-timely g c = timely g.R.Rack.places g.R.Rack.service g.R.Rack.steps (shows g) _
+
+pub returns-then-free-tasks-clause-paced : goal.returns-then-free-tasks-clause-paced
+returns-then-free-tasks-clause-paced g c = in_pace g.R.Rack.places g.R.Rack.service g.R.Rack.steps (shows g) _
+
+pub returns-then-free-tasks-clause-exact : goal.returns-then-free-tasks-clause-exact
+returns-then-free-tasks-clause-exact g c = (exact, no_smaller)
+
+pub returns-clause-timely : goal.returns-clause-timely
+returns-clause-timely g c = timely g.R.Rack.places g.R.Rack.service g.R.Rack.steps (shows g) _
+
+pub returns-clause-paced : goal.returns-clause-paced
+returns-clause-paced g c = in_pace g.R.Rack.places g.R.Rack.service g.R.Rack.steps (shows g) _
+
+pub returns-clause-exact : goal.returns-clause-exact
+returns-clause-exact g c = (exact, no_smaller)
