@@ -84,7 +84,7 @@ module _ {R : Type 0} (places : R → ℕ) (steps : R → ℕ → Bool → Bool 
       run = subst (λ (m : ℕ). Run steps (net_of a.graph) first slots (refused call m ∷ said) a.rack x) (sym (ap (λ (f : Fault). number_of f.reason) is ∙ number)) (refuses led.run call (reason slots x led.stands));
       stands = led.stands;
     };
-    same_belt = refl;
+    its_belt = refl;
   }
 
   module _ (b : Runner R) (graph : b.graph ≡ a.graph) (rack : b.rack ≡ a.rack) where
@@ -101,7 +101,7 @@ module _ {R : Type 0} (places : R → ℕ) (steps : R → ℕ → Bool → Bool 
       whole = record { state = arrived x.state v; belt = x.belt };
       led = goes_to first slots _ _ led.fits (arrives led.run v (welcome (net_of a.graph) slots x v there inlet (subst (λ (m : ℕ). m < 65535) (led.stands.waiting v there) room)))
           (alike_by (net_of a.graph) (shown b.board) (arrived (shown a.board) v) (arrived x.state v) stands (alike_arrived (net_of a.graph) (shown a.board) x.state v led.stands));
-      same_belt = refl;
+      its_belt = refl;
     }
 
     pub need_goes :
@@ -111,7 +111,7 @@ module _ {R : Type 0} (places : R → ℕ) (steps : R → ℕ → Bool → Bool 
       whole = record { state = need_set x.state v y; belt = x.belt };
       led = goes_to first slots _ _ led.fits (sets led.run v y reason)
           (alike_by (net_of a.graph) (shown b.board) (need_set (shown a.board) v y) (need_set x.state v y) stands (alike_need (net_of a.graph) (shown a.board) x.state v y led.stands));
-      same_belt = refl;
+      its_belt = refl;
     }
 
 -- the reason against a need

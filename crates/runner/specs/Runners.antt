@@ -8,7 +8,7 @@ use Rattle.servers.specs.Service.{Service}
 use Rattle.graph.specs.declared.graph.Graph.{Graph}
 use Rattle.graph.specs.Racked.{Racked, RefusesRack}
 use Rattle.flow.specs.Nets.{net_of}
-use Rattle.runs.specs.States.{State, new_state, ticked, put_out}
+use Rattle.runs.specs.States.{State, Finished, new_state, ticked, put_out}
 use Rattle.runs.specs.Runs.{Call, Said, done, refused, Whole, Run, Sweep}
 use Rattle.belt.specs.Belts.{contents, room}
 use Rattle.runner.specs.Records.{lying}
@@ -42,16 +42,17 @@ abbrev pub Turns : {R : Type 0} → Runner R → Result Unit Fault → State →
 Turns a (Ok _) s b = (b.graph ≡ a.graph) × (b.rack ≡ a.rack) × Alike (net_of a.graph) (shown b.board) s
 Turns a (Err _) s b = b ≡ a
 
--- Every run that led to runner a, with this call and its answer put on, leads to runner b, and the belt is as it was.
-pub record Leads {R : Type 0} (places : R → ℕ) (steps : R → ℕ → Bool → Bool → R → Type 0) (first : R) (slots : ℕ) (said : List Said) (r : Runner R) (belt : Whole) : Type 0 where
+-- These calls lead to this runner, and these records lie on the belt.
+pub record Leads {R : Type 0} (places : R → ℕ) (steps : R → ℕ → Bool → Bool → R → Type 0) (first : R) (slots : ℕ) (said : List Said) (r : Runner R) (belt : List Finished) : Type 0 where
   pub whole : Whole
   pub led : Led places steps first slots said r whole
-  pub same_belt : whole.belt ≡ belt.belt
+  pub its_belt : whole.belt ≡ belt
 
+-- Every run that led to runner a, with this call and its answer put on, leads to runner b, and the belt is as it was.
 abbrev pub Goes : {R : Type 0} → (R → ℕ) → (R → ℕ → Bool → Bool → R → Type 0) → Runner R → Call → Result Unit Fault → Runner R → Type 0
 Goes {R} places steps a call answer b =
     (first : R) (slots : ℕ) (said : List Said) (x : Whole) → Led places steps first slots said a x →
-    Leads places steps first slots (said_of call answer ∷ said) b x
+    Leads places steps first slots (said_of call answer ∷ said) b x.belt
 
 -- A new runner has this graph and this rack, its board shows a new state, and no calls lead to it, with any belt.
 pub record Begins {R : Type 0} (places : R → ℕ) (steps : R → ℕ → Bool → Bool → R → Type 0) (g : Graph) (first : R) (r : Runner R) : Type 0 where
@@ -88,12 +89,7 @@ Ticks places steps a before claims (Ok _) b after = TickDone places steps a befo
 Ticks places steps a before claims (Err _) b after = (b ≡ a) × (after ≡ before)
 
 -- Every run that led to runner a and this belt, with this call and its answer put on, leads to runner b and the belt after it.
-pub record LeadsOn {R : Type 0} (places : R → ℕ) (steps : R → ℕ → Bool → Bool → R → Type 0) (first : R) (slots : ℕ) (said : List Said) (r : Runner R) (records : List Record) : Type 0 where
-  pub whole : Whole
-  pub led : Led places steps first slots said r whole
-  pub its_belt : whole.belt ≡ lying records
-
 abbrev pub GoesOn : {R : Type 0} → (R → ℕ) → (R → ℕ → Bool → Bool → R → Type 0) → Runner R → List (Option Record) → Call → Result Unit Fault → Runner R → List (Option Record) → Type 0
 GoesOn {R} places steps a before call answer b after =
     (first : R) (said : List Said) (x : Whole) → Led places steps first (room before) said a x → x.belt ≡ lying (contents before) →
-    LeadsOn places steps first (room before) (said_of call answer ∷ said) b (contents after)
+    Leads places steps first (room before) (said_of call answer ∷ said) b (lying (contents after))
