@@ -1,0 +1,6 @@
+pub mod Tasks
+pub mod Serves
+pub mod Boards
+pub mod Records
+pub mod Runners
+pub mod Promises
