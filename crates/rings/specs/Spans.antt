@@ -1,4 +1,4 @@
--- Lead and pace of each task together, and the arcs that a search has of the edges.
+-- Lead and pace of each task together, and the arcs by which the edges are searched.
 use Rattle.std.specs.Prelude.{◌≡◌, ℕ, ◌*◌, ◌<◌, ◌≤◌, List, slice_index, vec_len, pos, ◌-ℤ◌, Result, MatchResult}
 use Rattle.faults.specs.declared.fault.Fault.{Fault}
 use Rattle.servers.specs.Service.{Service}
@@ -34,6 +34,6 @@ Paces g service paces = (v : ℕ) → v < vec_len g.tasks → slice_index paces 
 abbrev pub ReadsPaces : Graph → ℕ → (ℕ → Service) → Result (List ℕ) Fault → Type 0
 ReadsPaces g places service r = MatchResult r (λ paces. Racked g places service × Paces g service paces × Paced g paces) (RefusesRack g places service)
 
--- An edge as the search has it.
+-- An edge as it is searched.
 abbrev pub arc_of : List ℕ → ℕ → ℕ → Edge → Arc
 arc_of spans cycle parts e = record { from = e.from; to = e.to; lag = pos (parts * slice_index spans e.to) -ℤ pos (cycle * e.tokens) }

@@ -70,7 +70,7 @@ Bases base = (v : ℕ) → v < length base → (pos 0 ≤ℤ slice_index_or base
 abbrev pub Lags : List Arc → Type 0
 Lags es = (e : ℕ) → e < length es → (arc_at es e).lag ≤ℤ pos (2 ^ 52)
 
--- What a search may be asked.
+-- What may be searched.
 pub record Sound (es : List Arc) (base : List ℤ) : Type 0 where
   pub tasks : length base ≤ 16
   pub ends : Ends es (length base)
