@@ -7,32 +7,55 @@ use Rattle.runs.proofs.Moves.{supplied_decides}
 use Rattle.runner.specs.Boards.{Alike}
 use Rattle.runner.specs.Records.{ended}
 
-module _ (n : Net) (s t : State) (like : Alike n s t) (grants : ℕ → Bool) where
-  same_supplied : (v : ℕ) → v < n.tasks → supplied n s v ≡ supplied n t v
-  same_supplied v h =
-      same_from_decides (supplied n s v) (supplied n t v) (
-        λ q. let u = (supplied_decides n s v).0 q in record { inlet = λ i. omega (arith, u.inlet i, like.waiting v h); edges = λ e k w. omega (arith, u.edges e k w, like.held e k) },
-        λ u. (supplied_decides n s v).1 (record { inlet = λ i. omega (arith, u.inlet i, like.waiting v h); edges = λ e k w. omega (arith, u.edges e k w, like.held e k) }),
-      )
-      (supplied_decides n t v)
+-- Two nets with the same tasks and edges, within their number.
+pub record SameNet (n m : Net) : Type 0 where
+  pub tasks : m.tasks ≡ n.tasks
+  pub edges : m.edges ≡ n.edges
+  pub time : (v : ℕ) → v < n.tasks → m.time v ≡ n.time v
+  pub inlet : (v : ℕ) → v < n.tasks → m.inlet v ≡ n.inlet v
+  pub from : (e : ℕ) → e < n.edges → m.from e ≡ n.from e
+  pub to : (e : ℕ) → e < n.edges → m.to e ≡ n.to e
+  pub tokens : (e : ℕ) → e < n.edges → m.tokens e ≡ n.tokens e
 
-  same_starts : (v : ℕ) → v < n.tasks → starts n s grants v ≡ starts n t grants v
+pub one_net : (n : Net) → SameNet n n
+one_net n = record { tasks = refl; edges = refl; time = λ v h. refl; inlet = λ v h. refl; from = λ e h. refl; to = λ e h. refl; tokens = λ e h. refl }
+
+module _ (n m : Net) (nets : SameNet n m) (s t : State) (like : Alike n s t) (grants : ℕ → Bool) where
+  same_supplied : (v : ℕ) → v < n.tasks → supplied n s v ≡ supplied m t v
+  same_supplied v h =
+      same_from_decides (supplied n s v) (supplied m t v) (
+        λ q.
+            let u = (supplied_decides n s v).0 q in
+            record {
+              inlet = λ i. omega (arith, u.inlet (sym (nets.inlet v h) ∙ i), like.waiting v h);
+              edges = λ e k w. let j : e < n.edges = omega (arith, k, nets.edges) in omega (arith, u.edges e j (sym (nets.to e j) ∙ w), like.held e j);
+            },
+        λ u.
+            (supplied_decides n s v).1
+            (record {
+              inlet = λ i. omega (arith, u.inlet (nets.inlet v h ∙ i), like.waiting v h);
+              edges = λ e k w. omega (arith, u.edges e (omega (arith, k, nets.edges)) (nets.to e k ∙ w), like.held e k);
+            }),
+      )
+      (supplied_decides m t v)
+
+  same_starts : (v : ℕ) → v < n.tasks → starts n s grants v ≡ starts m t grants v
   same_starts v h = ap₂ (λ (k : ℕ) (p : Bool). cond (grants v) (cond (eqb k 0) p false) false) (like.to_go v h) (same_supplied v h)
 
-  pub same_ends : (v : ℕ) → v < n.tasks → ends n s grants v ≡ ends n t grants v
+  pub same_ends : (v : ℕ) → v < n.tasks → ends n s grants v ≡ ends m t grants v
   same_ends v h =
       ap₂ (λ (k : ℕ) (p : Bool). cond (grants v) (cond (eqb k 0) (cond p (eqb (s.need v) 1) false) (eqb k 1)) false) (like.to_go v h) (same_supplied v h)
-      ∙ ap (λ (m : ℕ). cond (grants v) (cond (eqb (t.to_go v) 0) (cond (supplied n t v) (eqb m 1) false) (eqb (t.to_go v) 1)) false) (like.need v h)
+      ∙ ap (λ (k : ℕ). cond (grants v) (cond (eqb (t.to_go v) 0) (cond (supplied m t v) (eqb k 1) false) (eqb (t.to_go v) 1)) false) (like.need v h)
 
-  same_left : (v : ℕ) → v < n.tasks → left n s grants v ≡ left n t grants v
+  same_left : (v : ℕ) → v < n.tasks → left n s grants v ≡ left m t grants v
   same_left v h =
       ap₂ (λ (k : ℕ) (p : Bool). cond (grants v) (cond (eqb k 0) (cond p (s.need v - 1) 0) (k - 1)) k) (like.to_go v h) (same_supplied v h)
-      ∙ ap (λ (m : ℕ). cond (grants v) (cond (eqb (t.to_go v) 0) (cond (supplied n t v) (m - 1) 0) (t.to_go v - 1)) (t.to_go v)) (like.need v h)
+      ∙ ap (λ (k : ℕ). cond (grants v) (cond (eqb (t.to_go v) 0) (cond (supplied m t v) (k - 1) 0) (t.to_go v - 1)) (t.to_go v)) (like.need v h)
 
-  pub alike_ticked : ((e : ℕ) → e < n.edges → n.to e < n.tasks) → ((e : ℕ) → e < n.edges → n.from e < n.tasks) → Alike n (ticked n grants s) (ticked n grants t)
+  pub alike_ticked : ((e : ℕ) → e < n.edges → n.to e < n.tasks) → ((e : ℕ) → e < n.edges → n.from e < n.tasks) → Alike n (ticked n grants s) (ticked m grants t)
   alike_ticked to from = record {
     clock = ap (λ (k : ℕ). k + 1) like.clock;
-    held = λ e h. omega (arith, like.held e h, ap one (same_starts (n.to e) (to e h)), ap one (same_ends (n.from e) (from e h)));
+    held = λ e h. omega (arith, like.held e h, ap one (same_starts (n.to e) (to e h)), ap one (same_ends (n.from e) (from e h)), ap (λ (v : ℕ). one (starts m t grants v)) (nets.to e h), ap (λ (v : ℕ). one (ends m t grants v)) (nets.from e h));
     waiting = λ v h. omega (arith, like.waiting v h, ap one (same_starts v h));
     to_go = λ v h. same_left v h;
     fired = λ v h. omega (arith, like.fired v h, ap one (same_ends v h));
@@ -57,7 +80,7 @@ module _ (n : Net) (s t : State) (like : Alike n s t) (grants : ℕ → Bool) wh
       go true q f c = rw (sym q, f refl, c) refl
       go false q f c = rw (sym q) refl
 
-  pub same_put : (k : ℕ) → k ≤ n.tasks → put_out n s grants k ≡ put_out n t grants k
+  pub same_put : (k : ℕ) → k ≤ n.tasks → put_out n s grants k ≡ put_out m t grants k
   unfolding put_out
   same_put zero h = refl
   same_put (suc k) h =

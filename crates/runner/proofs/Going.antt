@@ -18,7 +18,7 @@ use Rattle.runner.specs.Records.{told, lying}
 use Rattle.runner.specs.Runners.{GoesOn, TickDone}
 use Rattle.runner.specs.declared.record.Record.{Record}
 use Rattle.runner.specs.declared.runner.Runner.{Runner}
-use Rattle.runner.proofs.Alikes.{alike_ticked, same_put}
+use Rattle.runner.proofs.Alikes.{one_net, alike_ticked, same_put}
 use Rattle.runner.proofs.Calls.{alike_by}
 
 -- the reason against a tick
@@ -71,7 +71,7 @@ module _ {R : Type 0} (places : R → ℕ) (steps : R → ℕ → Bool → Bool 
           fits = rw d.its_graph led.fits;
           run = rw d.its_graph run;
           stands = rw d.its_graph (alike_by n (shown b.board) (ticked n d.grants (shown a.board)) (ticked n d.grants x.state) d.stands
-              (alike_ticked n (shown a.board) x.state led.stands d.grants (λ e h. a.graph.ends.to e (omega (arith, h, a.graph.edges.ok.0))) (λ e h. a.graph.ends.from e (omega (arith, h, a.graph.edges.ok.0)))));
+              (alike_ticked n n (one_net n) (shown a.board) x.state led.stands d.grants (λ e h. a.graph.ends.to e (omega (arith, h, a.graph.edges.ok.0))) (λ e h. a.graph.ends.from e (omega (arith, h, a.graph.edges.ok.0)))));
         };
-        its_belt = ap (λ ws. ws ++ put_out n x.state d.grants n.tasks) lies ∙ ap (λ ws. lying (contents before) ++ ws) (sym (same_put n (shown a.board) x.state led.stands d.grants n.tasks (omega arith))) ∙ sym d.records;
+        its_belt = ap (λ ws. ws ++ put_out n x.state d.grants n.tasks) lies ∙ ap (λ ws. lying (contents before) ++ ws) (sym (same_put n n (one_net n) (shown a.board) x.state led.stands d.grants n.tasks (omega arith))) ∙ sym d.records;
       }

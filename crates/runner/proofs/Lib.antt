@@ -1,4 +1,5 @@
 pub mod Alikes
+pub mod Alone
 pub mod Calls
 pub mod Going
 pub mod Kept

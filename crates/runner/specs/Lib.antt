@@ -4,3 +4,4 @@ pub mod Boards
 pub mod Records
 pub mod Runners
 pub mod Promises
+pub mod Alone

@@ -47,6 +47,7 @@ impl<R: Rack> Runner<R> {
     ghost use Rattle.runs.specs.Runs.{arrive as arrival, need as need_of, tick as tick_with, why};
     ghost use Rattle.runs.specs.Exact.{Exact, NoSmaller};
     ghost use Rattle.runner.specs.Boards.{shown};
+    ghost use Rattle.runner.specs.Alone.{RunnersExact};
     ghost use Rattle.runner.specs.Promises.{Timely, InPace};
     ghost use Rattle.runner.specs.Runners.{Made, shown_whole, Answers, Turns, Goes, whole_with, Ticks, GoesOn};
     ghost use Rattle.belt.specs.Belts.{contents, room};
@@ -103,7 +104,7 @@ impl<R: Rack> Runner<R> {
         ensures goes { GoesOn R.Rack.places R.Rack.steps self.old belt.old (tick_with claims.now) result self.new belt.new }
         ensures timely { Timely R.Rack.places R.Rack.service R.Rack.steps self.new }
         ensures paced { InPace R.Rack.places R.Rack.service R.Rack.steps self.new }
-        ensures exact { Exact × NoSmaller }
+        ensures exact { Exact × NoSmaller × RunnersExact }
     {
         let tasks = self.graph.tasks.len();
         if claims.len() != tasks {

@@ -10,8 +10,9 @@ use Rattle.runner.specs.Records.{told, lying, ended}
 use Rattle.runner.specs.Serves.{marked}
 use Rattle.runner.specs.Runners.{whole_with, TickDone}
 use Rattle.runner.proofs.Going.{misfit, spent, no_room, goes, refused_goes_on, tick_goes_on}
-use Rattle.runner.proofs.Alikes.{alike_self, ended_is}
+use Rattle.runner.proofs.Alikes.{one_net, alike_self, ended_is}
 use Rattle.runs.proofs.Exact.{exact, no_smaller}
+use Rattle.runner.proofs.Alone.{runners_exact}
 use Rattle.runner.proofs.Kept.{timely, in_pace}
 use Rattle.runner.proofs.runner.Runner.tick.Given as given
 use Rattle.runner.proofs.runner.Runner.tick.Goals as goal
@@ -100,7 +101,7 @@ done_so g c =
       stands = moves;
       records = put ∙ ap (λ ws. lying (contents b) ++ ws)
           (ap (λ (k : ℕ). ended (shown c.tick-ends.new.self) (marked c.tick-ends.result) k) c.len-tasks.ensures
-          ∙ ended_is n (shown r.board) (shown r.board) (alike_self n (shown r.board)) gr (shown c.tick-ends.new.self) (marked c.tick-ends.result) moves.clock moves.fired c.tick-ends.ensures.ending (vec_len r.graph.tasks) (omega arith));
+          ∙ ended_is n n (one_net n) (shown r.board) (shown r.board) (alike_self n (shown r.board)) gr (shown c.tick-ends.new.self) (marked c.tick-ends.result) moves.clock moves.fired c.tick-ends.ensures.ending (vec_len r.graph.tasks) (omega arith));
       same_room = c.put_records.ensures.room;
     }
 
@@ -117,7 +118,7 @@ pub returns-then-claims-tasks-clause-paced : goal.returns-then-claims-tasks-clau
 returns-then-claims-tasks-clause-paced g c = in_pace g.R.Rack.places g.R.Rack.service g.R.Rack.steps (shows g) _
 
 pub returns-then-claims-tasks-clause-exact : goal.returns-then-claims-tasks-clause-exact
-returns-then-claims-tasks-clause-exact g c = (exact, no_smaller)
+returns-then-claims-tasks-clause-exact g c = (exact, no_smaller, runners_exact)
 
 pub returns-then-clock-ge-LAST_CLOCK-clause-timely : goal.returns-then-clock-ge-LAST_CLOCK-clause-timely
 returns-then-clock-ge-LAST_CLOCK-clause-timely g c = timely g.R.Rack.places g.R.Rack.service g.R.Rack.steps (shows g) _
@@ -126,7 +127,7 @@ pub returns-then-clock-ge-LAST_CLOCK-clause-paced : goal.returns-then-clock-ge-L
 returns-then-clock-ge-LAST_CLOCK-clause-paced g c = in_pace g.R.Rack.places g.R.Rack.service g.R.Rack.steps (shows g) _
 
 pub returns-then-clock-ge-LAST_CLOCK-clause-exact : goal.returns-then-clock-ge-LAST_CLOCK-clause-exact
-returns-then-clock-ge-LAST_CLOCK-clause-exact g c = (exact, no_smaller)
+returns-then-clock-ge-LAST_CLOCK-clause-exact g c = (exact, no_smaller, runners_exact)
 
 pub returns-then-free-tasks-clause-timely : goal.returns-then-free-tasks-clause-timely
 returns-then-free-tasks-clause-timely g c = timely g.R.Rack.places g.R.Rack.service g.R.Rack.steps (shows g) _
@@ -135,7 +136,7 @@ pub returns-then-free-tasks-clause-paced : goal.returns-then-free-tasks-clause-p
 returns-then-free-tasks-clause-paced g c = in_pace g.R.Rack.places g.R.Rack.service g.R.Rack.steps (shows g) _
 
 pub returns-then-free-tasks-clause-exact : goal.returns-then-free-tasks-clause-exact
-returns-then-free-tasks-clause-exact g c = (exact, no_smaller)
+returns-then-free-tasks-clause-exact g c = (exact, no_smaller, runners_exact)
 
 pub returns-clause-timely : goal.returns-clause-timely
 returns-clause-timely g c = timely g.R.Rack.places g.R.Rack.service g.R.Rack.steps (shows g) _
@@ -144,4 +145,4 @@ pub returns-clause-paced : goal.returns-clause-paced
 returns-clause-paced g c = in_pace g.R.Rack.places g.R.Rack.service g.R.Rack.steps (shows g) _
 
 pub returns-clause-exact : goal.returns-clause-exact
-returns-clause-exact g c = (exact, no_smaller)
+returns-clause-exact g c = (exact, no_smaller, runners_exact)
