@@ -1,5 +1,5 @@
 -- Cycle over parts, a ring that reaches it, and the start figures, together.
-use Rattle.std.specs.Prelude.{◌≡◌, ℕ, ◌*◌, ◌<◌, List, [], ◌∷◌, map, slice_index, vec_len, Result, MatchResult}
+use Rattle.std.specs.Prelude.{◌≡◌, ℕ, ◌*◌, ◌<◌, ◌≤◌, ⊤, List, [], ◌∷◌, map, slice_index, vec_len, Result, MatchResult}
 use Rattle.faults.specs.declared.fault.Fault.{Fault}
 use Rattle.servers.specs.Service.{Service}
 use Rattle.graph.specs.declared.graph.Graph.{Graph}
@@ -21,6 +21,11 @@ abbrev pub hops_of : Critical → List Hop
 hops_of (critical.Link v) = link v ∷ []
 hops_of (critical.Edges walk) = map edge (arcs_of walk)
 
+-- All hops that the answered ring counts stand in its walk.
+abbrev pub Short : Critical → Type 0
+Short (critical.Link v) = ⊤
+Short (critical.Edges walk) = walk.count ≤ 16
+
 -- A ring that has just cycle over parts ticks per token.
 pub record Reaches (n : Net) (service : ℕ → Service) (cycle parts : ℕ) (hops : List Hop) : Type 0 where
   pub ring : Ring n hops
@@ -30,6 +35,7 @@ pub record Reaches (n : Net) (service : ℕ → Service) (cycle parts : ℕ) (ho
 pub record AreFigures (n : Net) (service : ℕ → Service) (f : RingFigures) : Type 0 where
   pub cycle : Cycle n service f.ratio.cycle f.ratio.parts
   pub ring : Reaches n service f.ratio.cycle f.ratio.parts (hops_of f.ring)
+  pub short : Short f.ring
   pub starts : Starts n service f.ratio.cycle f.ratio.parts (λ v. slice_index f.starts v)
 
 -- The same after the checks of the rack, whose refusal is told.

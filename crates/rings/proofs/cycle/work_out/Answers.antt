@@ -21,6 +21,7 @@ tries-init c =
     let is : Is r w 1 = search rules in (
       λ v h. omega (arith, mul-le-mul_right r.parts (c.slowest-first.ensures.most v h), mul_comm w r.parts, mul-one r.cycle, is.same),
       λ service are paces. link_reaches (net_of g) service first r.cycle r.parts c.slowest-first.ensures.task (ap (λ (x : ℕ). r.parts * x) (sym (paces first c.slowest-first.ensures.task)) ∙ is.same),
+      tt,
     )
 
 pub returns-in-Starts : goal.returns-in-Starts
@@ -33,6 +34,7 @@ returns-in-Starts c = λ service are paces.
       cycle = cycle_of (net_of g) service r.cycle r.parts (hops_of c.tries.ring) (λ v. get_or c.in-Starts.starts v 0) r.parts_some r.lowest
           (λ v h. omega (arith, c.tries.invariant.0 v h, mul_comm (get_or c.args.paces.now v 0) r.parts, ap (λ (x : ℕ). r.parts * x) (paces v h))) reaches told;
       ring = reaches;
+      short = c.tries.invariant.2;
       starts = told;
     }
 
@@ -113,4 +115,5 @@ tries-preserved c =
         ring = told.1.ring;
         meets = ap (λ (x : ℕ). r'.parts * x) (sym (c.weight.ensures.value service are)) ∙ is.same ∙ ap (λ (x : ℕ). r'.cycle * x) c.tokens.ensures.value;
       },
+      told.0,
     )
