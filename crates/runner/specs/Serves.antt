@@ -1,8 +1,9 @@
 -- One tick of a task.
-use Rattle.std.specs.Prelude.{◌≡◌, ℕ, ◌+◌, ◌-◌, ◌<◌, ◌≤◌, Bool, false, cond, ◌==◌, List, length, slice_index, slice_index_or}
+use Rattle.std.specs.Prelude.{◌≡◌, ℕ, ◌+◌, ◌-◌, ◌<◌, ◌≤◌, Bool, true, false, cond, ◌==◌, List, length, slice_index, slice_index_or}
 use Rattle.graph.specs.declared.parts.Edge.{Edge}
 use Rattle.graph.specs.Edges.{edge_at}
-use Rattle.runs.specs.States.{one}
+use Rattle.flow.specs.Nets.{Net}
+use Rattle.runs.specs.States.{State, one}
 use Rattle.runner.specs.declared.task.Stage.{Stage}
 use Rattle.runner.specs.declared.task.Stage.TheVariants.{Idle, UnderWay}
 use Rattle.runner.specs.declared.task.TaskRecord.{TaskRecord}
@@ -51,3 +52,7 @@ pub record Carried (es : List Edge) (starts ends : List Bool) (before after : Li
 -- Each edge into v holds a token.
 abbrev pub Holding : List Edge → List ℕ → ℕ → Type 0
 Holding es held v = (e : ℕ) → e < length es → (edge_at es e).to ≡ v → 1 ≤ slice_index held e
+
+-- An arrival waits at the inlet of v, if it has one.
+abbrev pub Awaited : Net → State → ℕ → Type 0
+Awaited n s v = n.inlet v ≡ true → 1 ≤ s.waiting v

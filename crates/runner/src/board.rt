@@ -62,8 +62,8 @@ fn carry(held: &mut [u64; MOST_EDGES], edges: &[Edge], starts: &Marks, ends: &Ma
 }
 
 impl Board {
-    ghost use Rattle.std.specs.Prelude.{◌≡◌, ◌-◌, Decides, vec_len, slice_index_or, false};
-    ghost use Rattle.runner.specs.Serves.{Holding, marked};
+    ghost use Rattle.std.specs.Prelude.{◌≡◌, ◌-◌, Decides, vec_len, slice_index_or, true, false};
+    ghost use Rattle.runner.specs.Serves.{Awaited, Holding, marked};
     ghost use Rattle.flow.specs.Nets.{net_of};
     ghost use Rattle.runs.specs.States.{new_state, arrived, need_set, supplied, ends, ticked};
     ghost use Rattle.runner.specs.Boards.{shown, Alike, Same};
@@ -125,39 +125,39 @@ impl Board {
         self.clock
     }
 
-    // Whether each edge into task v holds a token.
-    fn all_hold(&self, edges: &[Edge], v: usize) -> bool
-        requires { length edges.now ≤ 48 }
-        ensures { Decides result (Holding edges.now self.now.held v) }
+    // The tasks that have what they take from outside: an arrival at the inlet, if there is one.
+    fn awaited(&self, graph: &Graph) -> Marks
+        ensures long { length result ≡ 16 }
+        ensures judged { (v : ℕ) → v < vec_len graph.now.tasks → Decides (marked result v) (Awaited (net_of graph.now) (shown self.now) v) }
+    {
+        let mut marks = [false; MOST_TASKS];
+        for (v, task) in graph.tasks.iter().enumerate() {
+            marks[v] = !task.inlet || self.tasks[v].waiting > 0;
+        }
+        marks
+    }
+
+    // Takes the mark off each task into which an edge holds nothing.
+    // Over the edges, and not over the edges at each task: this is most of a tick's work.
+    fn unmark_short(&self, edges: &[Edge], marks: &mut Marks)
+        requires few { length edges.now ≤ 48 }
+        requires within { Ends edges.now 16 }
+        ensures { (v : ℕ) → v < 16 → Decides (marked marks.new v) ((marked marks.old v ≡ true) × Holding edges.now self.now.held v) }
     {
         for (e, edge) in edges.iter().enumerate() {
-            if edge.to == v && self.held[e] == 0 {
-                return false;
+            if self.held[e] == 0 {
+                marks[edge.to] = false;
             }
         }
-        true
     }
 
-    // Whether a firing of task v can start: an arrival waits at its inlet, if it has one, and each edge into it holds a token.
-    fn is_supplied(&self, graph: &Graph, v: usize) -> bool
-        requires { v < vec_len graph.now.tasks }
-        ensures { result ≡ supplied (net_of graph.now) (shown self.now) v }
-    {
-        if graph.tasks[v].inlet && self.tasks[v].waiting == 0 {
-            return false;
-        }
-        self.all_hold(&graph.edges, v)
-    }
-
-    // The tasks that are supplied.
+    // The tasks at which a firing can start: an arrival waits at the inlet, if there is one, and each edge into the task holds a token.
     fn ready(&self, graph: &Graph) -> Marks
         ensures { (v : ℕ) → v < vec_len graph.now.tasks → slice_index_or result v false ≡ supplied (net_of graph.now) (shown self.now) v }
     {
-        let mut ready = [false; MOST_TASKS];
-        for v in 0..graph.tasks.len() {
-            ready[v] = self.is_supplied(graph, v);
-        }
-        ready
+        let mut marks = self.awaited(graph);
+        self.unmark_short(&graph.edges, &mut marks);
+        marks
     }
 
     /// One tick with these grants. The answer: at which tasks a firing ends. Which tasks are ready is judged before anything moves.
