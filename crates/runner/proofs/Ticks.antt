@@ -1,5 +1,5 @@
 -- A tick of a board.
-use Rattle.std.proofs.Common.{◌≡◌, ℕ, ◌+◌, ◌-◌, ◌<◌, Bool, true, Decides, List, length, vec_len, vec_items, slice_index, sym, refl, ◌∙◌, ap, ap₂, arith}
+use Rattle.std.proofs.Common.{◌≡◌, ℕ, ◌+◌, ◌-◌, ◌<◌, Bool, false, Decides, List, length, vec_len, vec_items, slice_index, sym, refl, ◌∙◌, ap, ap₂, arith, true≢false}
 use Rattle.std.proofs.lemmas.Bool.Decides.{same_from_decides}
 use Rattle.graph.specs.declared.graph.Graph.{Graph}
 use Rattle.graph.specs.declared.parts.Edge.{Edge}
@@ -12,19 +12,20 @@ use Rattle.runner.specs.declared.task.TaskRecord.{TaskRecord}
 use Rattle.runner.specs.Boards.{shown_of, shown, Alike}
 use Rattle.runner.specs.Serves.{AllServed, Carried, Awaited, Holding, marked, starts_with, ends_with, left_with}
 
--- A mark that stays where an arrival waits and the edges hold tokens tells whether the task is supplied.
-pub supplied_by :
-    (g : Graph) (b : Board) (v : ℕ) (es : List Edge) (before after : Bool) → es ≡ vec_items g.edges → length es ≡ vec_len g.edges →
-    Decides before (Awaited (net_of g) (shown b) v) → Decides after ((before ≡ true) × Holding es b.held v) →
-    after ≡ supplied (net_of g) (shown b) v
-supplied_by g b v es before after its many awaited held =
-    same_from_decides after (supplied (net_of g) (shown b) v)
-    (λ q. record {
-       inlet = awaited.0 ((held.0 q).0);
-       edges = λ e k t. (held.0 q).1 e (omega (arith, many, k)) (ap (λ (fs : List Edge). (edge_at fs e).to) its ∙ t);
-     },
-     λ u. held.1 (awaited.1 (u.inlet), λ e k t. u.edges e (omega (arith, many, k)) (ap (λ (fs : List Edge). (edge_at fs e).to) (sym its) ∙ t)))
-    (supplied_decides (net_of g) (shown b) v)
+module _ (g : Graph) (b : Board) (v : ℕ) where
+  -- Where each edge into a task holds a token, the arrival decides whether it is supplied.
+  pub by_arrival : (r : Bool) → Holding (vec_items g.edges) b.held v → Decides r (Awaited (net_of g) (shown b) v) → r ≡ supplied (net_of g) (shown b) v
+  by_arrival r holds comes =
+      same_from_decides r (supplied (net_of g) (shown b) v)
+      (λ q. record { inlet = comes.0 q; edges = λ e h t. holds e (omega (arith, h, g.edges.ok.0)) t }, λ u. comes.1 (u.inlet))
+      (supplied_decides (net_of g) (shown b) v)
+
+  -- Where one holds none, the task is not supplied.
+  pub by_edges : (r : Bool) → Decides r (Holding (vec_items g.edges) b.held v) → r ≡ false → r ≡ supplied (net_of g) (shown b) v
+  by_edges r holds lacks =
+      same_from_decides r (supplied (net_of g) (shown b) v)
+      (λ q. absurd (true≢false (sym q ∙ lacks)), λ u. holds.1 (λ e h t. u.edges e (omega (arith, h, g.edges.ok.0)) t))
+      (supplied_decides (net_of g) (shown b) v)
 
 module _ (g : Graph) (b : Board) (grants ready starting ending : List Bool) (ts : List TaskRecord)
     (judged : (v : ℕ) → v < vec_len g.tasks → marked ready v ≡ supplied (net_of g) (shown b) v)

@@ -1,5 +1,5 @@
 -- One tick of a task.
-use Rattle.std.specs.Prelude.{◌≡◌, ℕ, ◌+◌, ◌-◌, ◌<◌, ◌≤◌, Bool, true, false, cond, ◌==◌, List, length, slice_index, slice_index_or}
+use Rattle.std.specs.Prelude.{◌≡◌, ℕ, ◌+◌, ◌-◌, ◌<◌, ◌≤◌, Bool, true, false, cond, Decides, ◌==◌, List, length, slice_index, slice_index_or}
 use Rattle.graph.specs.declared.parts.Edge.{Edge}
 use Rattle.graph.specs.Edges.{edge_at}
 use Rattle.flow.specs.Nets.{Net}
@@ -52,6 +52,10 @@ pub record Carried (es : List Edge) (starts ends : List Bool) (before after : Li
 -- Each edge into v holds a token.
 abbrev pub Holding : List Edge → List ℕ → ℕ → Type 0
 Holding es held v = (e : ℕ) → e < length es → (edge_at es e).to ≡ v → 1 ≤ slice_index held e
+
+-- The marks tell which tasks have a token on each edge in.
+abbrev pub Fed : List Edge → List ℕ → List Bool → Type 0
+Fed es held fed = (v : ℕ) → v < 16 → Decides (marked fed v) (Holding es held v)
 
 -- An arrival waits at the inlet of v, if it has one.
 abbrev pub Awaited : Net → State → ℕ → Type 0
