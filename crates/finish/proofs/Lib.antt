@@ -3,3 +3,4 @@ mod Tells
 mod Orders
 mod Waitings
 mod Whole
+mod More

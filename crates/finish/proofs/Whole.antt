@@ -1,5 +1,5 @@
 -- The whole table.
-use Rattle.std.proofs.Common.{◌≡◌, ℕ, ◌<◌, ◌≤◌, Bool, List, get_or, replicate, subst, sym, arith}
+use Rattle.std.proofs.Common.{◌≡◌, ℕ, ◌*◌, ◌<◌, ◌≤◌, Bool, List, length, get_or, replicate, subst, sym, arith}
 use Rattle.std.proofs.lemmas.List.{get_or-replicate, get_or_past}
 use native.Mathlib.Decide.{dec_lt}
 use lib.ListN.{length-replicate}
@@ -24,9 +24,9 @@ module _ (g : Net) (α : Arrivals) (cost : Cost) (n : ℕ) where
     within = h.within;
   }
 
-  pub filled : (worst ready table ready' table' : List ℕ) (r : Bool) → WaitsTold g cost n worst → Went g α n worst (λ _. 0) ready table (λ _. n) ready' table' r → Filled g α cost n table' r
-  filled worst ready table ready' table' r ws w = record {
-    wide = w.shaped.wide_table;
+  pub filled : (worst ready table ready' table' : List ℕ) (r : Bool) → length table' ≡ g.tasks * n → WaitsTold g cost n worst → Went g α n worst (λ _. 0) ready table (λ _. n) ready' table' r → Filled g α cost n table' r
+  filled worst ready table ready' table' r wide ws w = record {
+    wide = wide;
     told = λ q. all_told ready' table' ((w.well q).good cost ws (none ready table));
     over = λ q. w.over q cost ws (none ready table);
   }

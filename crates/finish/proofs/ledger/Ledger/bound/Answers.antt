@@ -1,0 +1,21 @@
+-- The step's bound is told, and one firing more is known.
+use Rattle.std.proofs.Common.{refl, arith}
+use Rattle.flow.specs.Nets.{net_of}
+use Rattle.finish.proofs.More.{bounds_more, ended_more, tells}
+use Rattle.finish.proofs.ledger.Ledger.bound.Goals as goal
+
+pub returns-clause-books : goal.returns-clause-books
+returns-clause-books c vm cost α fired h due =
+    let n = net_of c.args.graph.now in
+    let l = c.args.self.now in
+    let s = c.step-bound in (
+      tells n cost α fired l c.args.task _ _ s.result s.new.ready s.new.table h due vm refl c.if-i-ge-MOST_FIRINGS.false c.arrival-arrival.ensures s.ensures.stepped s.ensures.wrote (omega arith) _ c.told.ensures,
+      record {
+        few = h.few;
+        waits = h.waits;
+        arrivals = h.arrivals;
+        arrived = h.arrived;
+        ended = ended_more n cost α fired l c.args.task _ _ s.result s.new.ready s.new.table h due vm refl c.if-i-ge-MOST_FIRINGS.false c.arrival-arrival.ensures s.ensures.stepped (omega arith);
+        bounds = bounds_more n cost α fired l c.args.task _ _ s.result s.new.ready s.new.table h due vm refl c.if-i-ge-MOST_FIRINGS.false c.arrival-arrival.ensures s.ensures.stepped;
+      },
+    )
