@@ -2,5 +2,6 @@ mod Steps
 mod Tells
 mod Orders
 mod Waitings
-mod Whole
+mod Zeros
 mod More
+pub mod Counts

@@ -5,6 +5,7 @@ use native.Mathlib.Decide.{ℕ_discrete}
 use Rattle.flow.specs.Nets.{Net, Arrivals}
 use Rattle.flow.specs.Finish.{Cost, Feeds, ReadyLargest, Finish, finish}
 use Rattle.runs.specs.States.{one_more}
+use Rattle.finish.proofs.Tells.{partly_less}
 use Rattle.finish.specs.Filling.{entry, capped, FinishTold, Partly, Came, Fed, more, Stepped}
 use Rattle.finish.specs.Ledgers.{first, Knows, Due, TellsBound}
 use Rattle.finish.specs.declared.ledger.Ledger.{Ledger}
@@ -140,20 +141,17 @@ module _ (n : Net) (cost : Cost) (α : Arrivals) (fired : ℕ → ℕ) (l : Ledg
   stepped_bounds = s.right α cost (λ u. first (fired u)) h.waits h.bounds (omega (arith, number)) came fed
 
   pub bounds_more : Partly n α cost 256 (λ u. first (more fired v u)) ready bounds
-  bounds_more = record { room = λ u um. omega arith; readies = λ u j um jm. stepped_bounds.readies u j um (less u j jm); bounds = λ u j um jm. stepped_bounds.bounds u j um (less u j jm) }
+  bounds_more = partly_less n α cost 256 (more (λ u. first (fired u)) v) (λ u. first (more fired v u)) ready bounds (λ u um. less u (ℕ_discrete u v)) stepped_bounds
     where
-      less : (u j : ℕ) → j < first (more fired v u) → j < more (λ u. first (fired u)) v u
-      less u j jm = go (ℕ_discrete u v)
-        where
-          go : Dec (u ≡ v) → j < more (λ u. first (fired u)) v u
-          go (yes e) =
-              let m : more fired v u ≡ suc (fired v) = grind (arith, nat_tests) in
-              let m' : more (λ u. first (fired u)) v u ≡ suc (first (fired v)) = grind (arith, nat_tests) in
-              omega (arith, number)
-          go (no ne) =
-              let m : more fired v u ≡ fired u = grind (arith, nat_tests) in
-              let m' : more (λ u. first (fired u)) v u ≡ first (fired u) = grind (arith, nat_tests) in
-              omega arith
+      less : (u : ℕ) → Dec (u ≡ v) → first (more fired v u) ≤ more (λ u. first (fired u)) v u
+      less u (yes e) =
+          let m : more fired v u ≡ suc (fired v) = grind (arith, nat_tests) in
+          let m' : more (λ u. first (fired u)) v u ≡ suc (first (fired v)) = grind (arith, nat_tests) in
+          omega (arith, number)
+      less u (no ne) =
+          let m : more fired v u ≡ fired u = grind (arith, nat_tests) in
+          let m' : more (λ u. first (fired u)) v u ≡ first (fired u) = grind (arith, nat_tests) in
+          omega arith
 
   pub ended_more : v < length l.fired → (u : ℕ) → u < n.tasks → get_or (set l.fired v (i + 1)) u 0 ≡ first (more fired v u)
   ended_more inside u um = go (ℕ_discrete u v)

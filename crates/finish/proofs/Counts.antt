@@ -1,0 +1,40 @@
+-- What a ledger knows of firings, however they are counted.
+use Rattle.std.proofs.Common.{◌≡◌, ℕ, suc, ◌<◌, ◌≤◌, get_or, ap, refl, arith}
+use Rattle.std.proofs.lemmas.Bool.Decides.{nat_tests}
+use native.Mathlib.Decide.{ℕ_discrete}
+use Rattle.flow.specs.Nets.{Net, Arrivals}
+use Rattle.flow.specs.Finish.{Cost}
+use Rattle.finish.proofs.Tells.{partly_less}
+use Rattle.finish.specs.Filling.{more}
+use Rattle.finish.specs.Ledgers.{first, Knows, TellsBound}
+use Rattle.finish.specs.declared.ledger.Ledger.{Ledger}
+
+module _ (n : Net) (cost : Cost) (α : Arrivals) (fired : ℕ → ℕ) (l : Ledger) (h : Knows n cost α fired l) where
+  knows_first : (fired' : ℕ → ℕ) → ((v : ℕ) → v < n.tasks → first (fired' v) ≡ first (fired v)) → Knows n cost α fired' l
+  knows_first fired' same = record {
+    few = h.few;
+    waits = h.waits;
+    arrivals = h.arrivals;
+    arrived = h.arrived;
+    ended = λ v vm. omega (arith, same v vm, h.ended v vm);
+    bounds = partly_less n α cost 256 (λ v. first (fired v)) (λ v. first (fired' v)) l.ready l.bounds (λ v vm. omega (arith, same v vm)) h.bounds;
+  }
+
+  -- another count of them
+  pub knows_counted : (fired' : ℕ → ℕ) → ((v : ℕ) → v < n.tasks → fired' v ≡ fired v) → Knows n cost α fired' l
+  knows_counted fired' same = knows_first fired' (λ v vm. ap first (same v vm))
+
+  -- from firing 256 of v on
+  module _ (v : ℕ) (vm : v < n.tasks) (many : 256 ≤ get_or l.fired v 0) where
+    pub tells_late : TellsBound n cost α v (fired v) 0
+    tells_late = record { early = λ m. absurd (omega (arith, h.ended v vm)); late = λ _. refl }
+
+    pub knows_late : Knows n cost α (more fired v) l
+    knows_late = knows_first (more fired v) (λ u um. same u um (ℕ_discrete u v))
+      where
+        same : (u : ℕ) → u < n.tasks → Dec (u ≡ v) → first (more fired v u) ≡ first (fired u)
+        same u um (yes e) =
+            let m : more fired v u ≡ suc (fired v) = grind (arith, nat_tests) in
+            let f : fired u ≡ fired v = ap fired e in
+            omega (arith, h.ended v vm)
+        same u um (no ne) = let m : more fired v u ≡ fired u = grind (arith, nat_tests) in omega arith
