@@ -1,5 +1,5 @@
--- What a ledger knows of firings, however they are counted.
-use Rattle.std.proofs.Common.{◌≡◌, ℕ, suc, ◌<◌, ◌≤◌, get_or, ap, refl, arith}
+-- Counts of arrivals and firings that are kept up to 256.
+use Rattle.std.proofs.Common.{◌≡◌, ◌≢◌, ℕ, suc, ◌+◌, ◌<◌, ◌≤◌, List, length, set, get_or, ap, refl, sym, subst, arith, get_or-set_same, get_or-set_other}
 use Rattle.std.proofs.lemmas.Bool.Decides.{nat_tests}
 use native.Mathlib.Decide.{ℕ_discrete}
 use Rattle.flow.specs.Nets.{Net, Arrivals}
@@ -9,6 +9,18 @@ use Rattle.finish.specs.Filling.{more}
 use Rattle.finish.specs.Ledgers.{first, Knows, TellsBound}
 use Rattle.finish.specs.declared.ledger.Ledger.{Ledger}
 
+-- one more at v
+module _ (m : ℕ) (count count' : ℕ → ℕ) (v : ℕ) (there : count' v ≡ suc (count v)) (others : (u : ℕ) → (u ≡ v → ⊥) → count' u ≡ count u) where
+  pub count_set : (xs : List ℕ) → v < length xs → get_or xs v 0 < 256 → ((u : ℕ) → u < m → get_or xs u 0 ≡ first (count u)) → (u : ℕ) → u < m → get_or (set xs v (get_or xs v 0 + 1)) u 0 ≡ first (count' u)
+  count_set xs inside room old u um = go (ℕ_discrete u v)
+    where
+      go : Dec (u ≡ v) → get_or (set xs v (get_or xs v 0 + 1)) u 0 ≡ first (count' u)
+      go (yes e) =
+          let was : get_or xs v 0 ≡ first (count v) = subst (λ (w : ℕ). get_or xs w 0 ≡ first (count w)) e (old u um) in
+          subst (λ (w : ℕ). get_or (set xs v (get_or xs v 0 + 1)) w 0 ≡ first (count' w)) (sym e) (omega (arith, get_or-set_same xs v (get_or xs v 0 + 1) 0 inside, there))
+      go (no ne) = let ne' : u ≢ v = ne in omega (arith, get_or-set_other xs v u (get_or xs v 0 + 1) 0 ne', old u um, others u ne)
+
+-- what a ledger knows of firings
 module _ (n : Net) (cost : Cost) (α : Arrivals) (fired : ℕ → ℕ) (l : Ledger) (h : Knows n cost α fired l) where
   knows_first : (fired' : ℕ → ℕ) → ((v : ℕ) → v < n.tasks → first (fired' v) ≡ first (fired v)) → Knows n cost α fired' l
   knows_first fired' same = record {

@@ -3,5 +3,6 @@ mod Tells
 mod Orders
 mod Waitings
 mod Zeros
-mod More
 pub mod Counts
+mod MoreArrivals
+mod MoreFirings

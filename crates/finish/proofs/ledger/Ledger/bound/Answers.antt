@@ -2,7 +2,7 @@
 use Rattle.std.proofs.Common.{refl, arith}
 use Rattle.flow.specs.Nets.{net_of}
 use Rattle.finish.proofs.Counts.{tells_late, knows_late}
-use Rattle.finish.proofs.More.{bounds_more, ended_more, tells}
+use Rattle.finish.proofs.MoreFirings.{bounds_more, ended_more, tells}
 use Rattle.finish.proofs.ledger.Ledger.bound.Goals as goal
 
 pub returns-then-i-ge-MOST_FIRINGS-clause-books : goal.returns-then-i-ge-MOST_FIRINGS-clause-books
