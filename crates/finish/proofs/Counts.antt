@@ -20,7 +20,7 @@ module _ (m : ℕ) (count count' : ℕ → ℕ) (v : ℕ) (there : count' v ≡ 
           subst (λ (w : ℕ). get_or (set xs v (get_or xs v 0 + 1)) w 0 ≡ first (count' w)) (sym e) (omega (arith, get_or-set_same xs v (get_or xs v 0 + 1) 0 inside, there))
       go (no ne) = let ne' : u ≢ v = ne in omega (arith, get_or-set_other xs v u (get_or xs v 0 + 1) 0 ne', old u um, others u ne)
 
--- what a ledger knows of firings
+-- as many of them among the first 256
 module _ (n : Net) (cost : Cost) (α : Arrivals) (fired : ℕ → ℕ) (l : Ledger) (h : Knows n cost α fired l) where
   knows_first : (fired' : ℕ → ℕ) → ((v : ℕ) → v < n.tasks → first (fired' v) ≡ first (fired v)) → Knows n cost α fired' l
   knows_first fired' same = record {
@@ -31,10 +31,6 @@ module _ (n : Net) (cost : Cost) (α : Arrivals) (fired : ℕ → ℕ) (l : Ledg
     ended = λ v vm. omega (arith, same v vm, h.ended v vm);
     bounds = partly_less n α cost 256 (λ v. first (fired v)) (λ v. first (fired' v)) l.ready l.bounds (λ v vm. omega (arith, same v vm)) h.bounds;
   }
-
-  -- another count of them
-  pub knows_counted : (fired' : ℕ → ℕ) → ((v : ℕ) → v < n.tasks → fired' v ≡ fired v) → Knows n cost α fired' l
-  knows_counted fired' same = knows_first fired' (λ v vm. ap first (same v vm))
 
   -- from firing 256 of v on
   module _ (v : ℕ) (vm : v < n.tasks) (many : 256 ≤ get_or l.fired v 0) where

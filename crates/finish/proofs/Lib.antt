@@ -3,6 +3,6 @@ mod Tells
 mod Orders
 mod Waitings
 mod Zeros
-pub mod Counts
+mod Counts
 mod MoreArrivals
 mod MoreFirings
