@@ -2,4 +2,7 @@ mod Steps
 mod Tells
 mod Orders
 mod Waitings
-mod Whole
+mod Zeros
+mod Counts
+mod MoreArrivals
+mod MoreFirings

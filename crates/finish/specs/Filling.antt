@@ -46,9 +46,9 @@ pub record Partly (net : Net) (α : Arrivals) (cost : Cost) (n : ℕ) (done : �
   pub readies : (u j : ℕ) → u < net.tasks → j < done u → ReadyTold net α cost u j (entry ready n u j)
   pub bounds : (u j : ℕ) → u < net.tasks → j < done u → FinishTold net α cost u j (entry table n u j)
 
--- The arrival that firing i of v takes, or 0 where it has no inlet.
+-- What is kept of the arrival that firing i of v takes, or 0 where it has no inlet.
 pub record Came (net : Net) (α : Arrivals) (v i arrival : ℕ) : Type 0 where
-  pub inlet : net.inlet v ≡ true → (i < α.count v) × (arrival ≡ α.stamp v i)
+  pub inlet : net.inlet v ≡ true → (i < α.count v) × (arrival ≡ capped (α.stamp v i))
   pub none : net.inlet v ≡ false → arrival ≡ 0
 
 -- The firings that feed firing i of v have their entries.
@@ -59,13 +59,13 @@ pub record Fed (net : Net) (done : ℕ → ℕ) (v i : ℕ) : Type 0 where
 abbrev pub more : (ℕ → ℕ) → ℕ → ℕ → ℕ
 more done v u = cond (u == v) (suc (done v)) (done u)
 
--- There are n entries to a task in the table, and room for as many in the others; none is past what is kept.
+-- There is room for n entries to a task, and none is past what is kept.
 pub record Shaped (net : Net) (n : ℕ) (worst ready table : List ℕ) : Type 0 where
   pub short : n ≤ 256
   pub few : net.tasks ≤ 16
   pub wide_worst : net.tasks * n ≤ length worst
   pub wide_ready : net.tasks * n ≤ length ready
-  pub wide_table : length table ≡ net.tasks * n
+  pub wide_table : net.tasks * n ≤ length table
   pub kept_worst : Kept worst
   pub kept_ready : Kept ready
   pub kept_table : Kept table

@@ -1,6 +1,7 @@
 #![tactic(auto)]
 
 mod checks;
+pub mod ledger;
 mod rows;
 mod step;
 pub mod table;

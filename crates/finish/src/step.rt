@@ -37,7 +37,7 @@ fn latest(ready: &[u64], worst: &[u64], at: usize, i: usize) -> u64
 impl Waits<'_> {
     /// The largest of the arrival and of the bounds that feed firing i of task v.
     fn ready_at(&self, table: &[u64], v: usize, i: usize, arrival: u64) -> u64
-        requires wide { length table.now ≡ vec_len self.now.graph.now.tasks * self.now.n }
+        requires wide { vec_len self.now.graph.now.tasks * self.now.n ≤ length table.now }
         requires firing { i < self.now.n }
         requires short { self.now.n ≤ 256 }
         ensures { IsLargest (Feeds (net_of self.now.graph.now) v i) (λ e. entry table.now self.now.n ((net_of self.now.graph.now).from e) (i - (net_of self.now.graph.now).tokens e)) arrival (vec_len self.now.graph.now.edges) result }

@@ -1,4 +1,6 @@
 #![tactic(auto)]
 
 #[cfg(test)]
+mod ledger_tests;
+#[cfg(test)]
 mod table_tests;

@@ -16,7 +16,7 @@ use std::alloc::Global;
 use std::test::Fail;
 
 // A graph of tasks with times, some with an inlet, and edges from, to and with tokens.
-fn graph_of(
+pub(crate) fn graph_of(
     heap: Global,
     tasks: &[(u64, bool)],
     edges: &[(usize, usize, u64)],
@@ -35,7 +35,7 @@ fn graph_of(
 }
 
 // A fixed slice of so many ticks of each period.
-fn slice_of(slice: u64, period: u64, phase: u64) -> Result<Fixed, Fault> {
+pub(crate) fn slice_of(slice: u64, period: u64, phase: u64) -> Result<Fixed, Fault> {
     let settings = Settings {
         period,
         slice,
