@@ -1,4 +1,4 @@
-ghost use Rattle.std.specs.Prelude.{◌≡◌, ◌≤◌, ◌<◌, ◌+◌, ℕ, true, false, ◌||◌, List, [], ◌∷◌, ◌++◌, length, IfOk, IsTrue, OnOk, OnErr, MatchResult, vec_items, vec_len, vec_capacity};
+ghost use Rattle.std.specs.Prelude.{◌≡◌, ◌≤◌, ◌<◌, ◌+◌, ℕ, true, false, ◌||◌, List, [], ◌∷◌, ◌++◌, length, IfOk, OnOk, OnErr, MatchResult, vec_items, vec_len, vec_capacity};
 ghost use Rattle.lexer.specs.Left.{counted};
 ghost use Rattle.belt.specs.Belts.{contents, room};
 ghost use Rattle.ahead.specs.Givens.{Gives, given, refuses};
@@ -38,28 +38,21 @@ fn is_ended(part: &[u8]) -> bool
 }
 
 impl Ahead {
-    ghost use Rattle.ahead.specs.Texts.{Reads, Whole, OneGiven};
+    ghost use Rattle.ahead.specs.Texts.{Reads, Whole, OneGiven, FaultEnds};
     ghost use Rattle.ahead.specs.Steps.{Carried, Stops, TooLong};
 
-    /// Nothing was read yet. Lines of up to 64 bytes will never want memory.
+    /// Nothing was read yet. Lines of up to 64 bytes will never want memory. What a text gives does not hang on how it is cut (`one`), nor on what stands below a line that is refused (`whole`).
     pub fn new(heap: Global) -> Result<Ahead, AllocError>
         ensures reads { IfOk result (λ a. Reads [] [] a) }
         ensures capacity { IfOk result (λ a. 64 ≤ vec_capacity a.held) }
         ensures one { OneGiven }
+        ensures whole { FaultEnds }
     {
         Ok(Ahead {
             held: Vec::with_capacity(heap, ROOM)?,
             number: 1,
             is_over: false,
         })
-    }
-
-    /// Whether a line was refused. Below it nothing is read, so that what was given is what the text gives, whatever comes behind.
-    pub fn is_over(&self) -> bool
-        ensures value { result ≡ self.now.is_over }
-        ensures whole { IsTrue result → (t more : List ℕ) (gs : List AGiven) → Reads t gs self.now → Whole (t ++ more) gs }
-    {
-        self.is_over
     }
 
     /// Reads bytes that come next, and puts what each line that ends in them gives on the belt. Answers how many of them were read: all, or those up to the line after which the belt is full, or those up to the first line that is refused.
