@@ -1,11 +1,10 @@
 -- What lines give, with one line more, and how a text is read on.
-use Rattle.std.proofs.Common.{◌≡◌, ℕ, ◌+◌, ◌^◌, ◌<◌, Bool, true, false, cond, eqb, List, [], ◌∷◌, ◌++◌, length, drop, Some, None, Option, vec_items, refl, sym, ap, ◌∙◌, subst, append_assoc, arith}
+use Rattle.std.proofs.Common.{◌≡◌, ℕ, ◌+◌, ◌^◌, ◌<◌, Bool, true, false, cond, eqb, List, [], ◌∷◌, ◌++◌, length, Some, None, Option, vec_items, refl, sym, ap, ◌∙◌, subst, append_assoc, arith}
 use Rattle.std.proofs.lemmas.Grind.{flat_map-append}
 use Rattle.std.proofs.lemmas.List.{append-nil, length_push, length-append, nil_from_length}
 use Rattle.std.proofs.lemmas.Bool.Decides.{nat_tests}
 use Rattle.std.proofs.lemmas.Bool.{false≢true}
 use Rattle.faults.specs.Faults.{fault}
-use Rattle.faults.specs.declared.fault.Fault as faults
 use Rattle.faults.specs.declared.layer.Layer.TheVariants.{Reader}
 use Rattle.lexer.specs.Left.{counted}
 use Rattle.lexer.specs.Text.{lines}
@@ -17,7 +16,7 @@ use Rattle.ahead.specs.declared.ahead.Ahead.{Ahead}
 use Rattle.ahead.specs.declared.given.Given.{Given}
 use Rattle.ahead.specs.declared.given.Given.TheVariants.{Call, Fault}
 use Rattle.ahead.specs.Givens.{line_checks, Gives, given, refuses, AllGive, none, headed, called, refused}
-use Rattle.ahead.specs.Texts.{ended, unended, Reads, lines_of, FaultEnds}
+use Rattle.ahead.specs.Texts.{ended, unended, Reads, lines_of}
 use Rattle.ahead.proofs.Cuts.{joined, all_ended, one_unended, ended_more, unended_more, all_more}
 
 one_gives : (n : ℕ) (l : List ℕ) (o : Option Given) → Gives n l o → AllGive n (l ∷ []) (given o) (refuses o)
@@ -149,19 +148,3 @@ module _ (a : Ahead) (t : List ℕ) (gs : List Given) (r : Reads t gs a) where
       let more : 0 < length (lines t) = omega (arith, ap length are, length_push r.told h) in
       let all = gives_more r.give f (omega arith) h o (subst (λ m. Gives m h o) r.number (no_end a.number h r.behind some)) in
       subst (λ xs. AllGive 1 xs (gs ++ Fault (fault 2 Reader a.number 0) ∷ []) true) (sym (lines_some t more ∙ are)) all
-
--- a fault was given
-
-abbrev first_of : List Given → Option Given
-first_of [] = None
-first_of (g ∷ gs) = Some g
-
-fault_told : {n : ℕ} {ls : List (List ℕ)} {hs : List Given} {over : Bool} → AllGive n ls hs over → (gs : List Given) (f : faults.Fault) → hs ≡ gs ++ Fault f ∷ [] → over ≡ true
-fault_told none gs f e = absurd (omega (arith, ap length e, length_push gs (Fault f)))
-fault_told (headed h a) gs f e = fault_told a gs f e
-fault_told (called h a) [] f e = absurd (false≢true (ap (λ x. refuses (first_of x)) e))
-fault_told (called h a) (g ∷ gs) f e = fault_told a gs f (ap (drop 1) e)
-fault_told (refused h) gs f e = refl
-
-pub fault_ends : FaultEnds
-fault_ends a t more gs f r = (true, whole_over a t more (gs ++ Fault f ∷ []) (fault_told r.give gs f refl) r)

@@ -49,7 +49,3 @@ shown (Fault f) = Err f
 -- A whole text gives one thing, however it was cut into pieces as it was read.
 abbrev pub OneGiven : Type 0
 OneGiven = (t : List ℕ) (gs hs : List Given) → Whole t gs → Whole t hs → map shown gs ≡ map shown hs
-
--- Once a fault was given, a text has given all that it gives, whatever comes below.
-abbrev pub FaultEnds : Type 0
-FaultEnds = (a : Ahead) (t more : List ℕ) (gs : List Given) (f : fault.Fault) → Reads t (gs ++ Fault f ∷ []) a → Whole (t ++ more) (gs ++ Fault f ∷ [])

@@ -3,7 +3,6 @@ use Rattle.std.proofs.Common.{[], sym, ap, rules}
 use Rattle.ahead.specs.Givens.{none}
 use Rattle.ahead.specs.Texts.{unended}
 use Rattle.ahead.proofs.Alike.{one_given}
-use Rattle.ahead.proofs.Told.{fault_ends}
 use Rattle.ahead.proofs.ahead.Ahead.new.Goals as goal
 
 pub returns-clause-reads : goal.returns-clause-reads
@@ -16,9 +15,3 @@ returns-clause-one c = one_given
 
 pub returns-in_err-with_capacity-clause-one : goal.returns-in_err-with_capacity-clause-one
 returns-in_err-with_capacity-clause-one c = one_given
-
-pub returns-clause-whole : goal.returns-clause-whole
-returns-clause-whole c = fault_ends
-
-pub returns-in_err-with_capacity-clause-whole : goal.returns-in_err-with_capacity-clause-whole
-returns-in_err-with_capacity-clause-whole c = fault_ends
