@@ -1,0 +1,5 @@
+#![tactic(auto)]
+
+pub mod ahead;
+pub mod given;
+mod reading;
