@@ -1,0 +1,4 @@
+#![tactic(auto)]
+
+pub mod figures;
+pub mod ring_tasks;
