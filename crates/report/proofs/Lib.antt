@@ -1,1 +1,4 @@
+pub mod Planned
 pub mod Told
+pub mod Answered
+pub mod Printed

@@ -2,7 +2,9 @@ ghost use Rattle.std.specs.Prelude.{List, ℕ};
 ghost use Rattle.texts.specs.Puts.{Puts};
 ghost use Rattle.report.specs.Reports.{Reports, Reported};
 
-use crate::lines::{put_fault, put_table};
+use crate::lines::put_fault;
+use crate::tables::put_report;
+use figures::figures::figures_of;
 use reader::read::read;
 use reader::room::Room;
 use std::alloc::AllocError;
@@ -12,13 +14,16 @@ use texts::all_or_nothing;
 pub fn report(out: &mut Vec<u8>, text: &[u8], room: Room) -> Result<(), AllocError>
     ensures { Reported text.now out.old result out.new }
 {
-    let put_report = |out: &mut Vec<u8>| -> Result<(), AllocError>
+    let put_answer = |out: &mut Vec<u8>| -> Result<(), AllocError>
         ensures { (bs : List ℕ) × Reports text.entry.now bs × Puts out.old bs result out.new }
     {
         match read(text, room) {
-            Ok(sheet) => put_table(out, &sheet),
+            Ok(sheet) => {
+                let figures = figures_of(&sheet.graph, &sheet.rack).unwrap();
+                put_report(out, &sheet, &figures)
+            }
             Err(fault) => put_fault(out, fault),
         }
     };
-    all_or_nothing(out, put_report)
+    all_or_nothing(out, put_answer)
 }
