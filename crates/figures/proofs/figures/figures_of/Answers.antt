@@ -15,7 +15,7 @@ returns g c =
       record {
         cycle = are.cycle;
         margin = to_z-of_z w64 c.margin.result (search rules) ∙ c.margin.ensures;
-        verdict = c.verdict.ensures;
+        verdict = search rules;
         starts = starts_like (net_of graph) service found.ratio.cycle found.ratio.parts (graph_ends graph) (λ v. get_or found.starts v 0) (λ v. get_or c.of_tasks.result v 0) c.of_tasks.ensures.tasks are.starts;
         no_start = c.of_tasks.ensures.rest;
         loads = c.loads.ensures.tasks;
