@@ -8,7 +8,7 @@ use Rattle.sheets.specs.Pages.{Page}
 use Rattle.sheets.specs.Laws.{Written, Refused}
 use Rattle.figures.specs.declared.figures.Figures.{Figures}
 use Rattle.report.specs.Plans.{FiguresOf}
-use Rattle.report.specs.Texts.{report_text}
+use Rattle.report.specs.Texts.{figures_lines, report_text}
 
 -- The figures of a legal sheet, or the line of the fault.
 pub data Reports (t out : List ℕ) : Type 0 where
@@ -18,3 +18,7 @@ pub data Reports (t out : List ℕ) : Type 0 where
 -- The report is appended to a buffer; where it does not fit and no memory is to be had, the buffer's contents stay as they were.
 abbrev pub Reported : {U E Z : Type 0} → List ℕ → Vec ℕ Z → Result U E → Vec ℕ Z → Type 0
 Reported t v r w = (bs : List ℕ) × Reports t bs × Appends v bs r w
+
+-- All that is printed above the critical ring is determined by the text.
+abbrev pub OneReport : List ℕ → Type 0
+OneReport t = (p : Page) (f g : Figures) → Written t p → FiguresOf p f → FiguresOf p g → figures_lines p f ≡ figures_lines p g

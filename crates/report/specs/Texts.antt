@@ -35,13 +35,16 @@ task_line p f v = line_of (task_cells (entry_at p.tasks v) (slice_index f.starts
 abbrev pub ring_line : Page → ℕ → List ℕ
 ring_line p v = line_of ((entry_at p.tasks v).name ∷ [])
 
--- The lines of a report: three tables, with an empty line between them.
-abbrev pub report_lines : Page → Figures → List (List ℕ)
-report_lines p f =
+-- The tables of the goal and of the tasks, with an empty line between them.
+abbrev pub figures_lines : Page → Figures → List (List ℕ)
+figures_lines p f =
     goal_heading ∷ goal_line p.goal f ∷ end
-    ∷ tasks_heading ∷ (map (task_line p f) (range_with_len 0 (length p.tasks))
-    ++ (end ∷ critical_heading ∷ map (ring_line p) (ring_tasks f.critical)))
+    ∷ tasks_heading ∷ map (task_line p f) (range_with_len 0 (length p.tasks))
 
--- A report's bytes.
+-- The table of the critical ring.
+abbrev pub ring_lines : Page → Figures → List (List ℕ)
+ring_lines p f = critical_heading ∷ map (ring_line p) (ring_tasks f.critical)
+
+-- A report's bytes: the three tables, with an empty line before the last.
 abbrev pub report_text : Page → Figures → List ℕ
-report_text p f = all_of (report_lines p f)
+report_text p f = all_of (figures_lines p f ++ (end ∷ ring_lines p f))
