@@ -1,31 +1,13 @@
-ghost use Rattle.std.specs.Prelude.{◌++◌, ◌<◌, vec_len};
-ghost use Rattle.faults.specs.Faults.{fault_line};
-ghost use Rattle.lexer.specs.Text.{end};
+ghost use Rattle.std.specs.Prelude.{◌<◌, vec_len};
 ghost use Rattle.texts.specs.Puts.{Puts};
 ghost use Rattle.sheets.specs.Reads.{page, Planned};
 ghost use Rattle.report.specs.Texts.{goal_line, task_line, ring_line};
 
-use faults::fault::Fault;
 use figures::figures::Figures;
 use graph::figures::figures_at;
 use sheets::sheet::Sheet;
 use std::alloc::AllocError;
 use texts::line::{Cell, put_line};
-
-/// The line of a fault, as its `Display` has it.
-// By cells: a `writeln!` may fail for any reason, and says nothing of what it then left.
-pub(crate) fn put_fault(out: &mut Vec<u8>, fault: Fault) -> Result<(), AllocError>
-    ensures { Puts out.old (fault_line fault ++ end) result out.new }
-{
-    let cells = [
-        Cell::Word(b"refused"),
-        Cell::Word(fault.layer.word().as_bytes()),
-        Cell::Number(u64::from(fault.reason.number())),
-        Cell::Number(u64::from(fault.line)),
-        Cell::Number(u64::from(fault.field)),
-    ];
-    put_line(out, &cells)
-}
 
 /// The line of the goal.
 pub(crate) fn put_goal(out: &mut Vec<u8>, goal: u64, figures: &Figures) -> Result<(), AllocError>

@@ -2,13 +2,13 @@ ghost use Rattle.std.specs.Prelude.{List, ℕ};
 ghost use Rattle.texts.specs.Puts.{Puts};
 ghost use Rattle.report.specs.Reports.{Reports, Reported, OneReport};
 
-use crate::lines::put_fault;
 use crate::tables::put_report;
 use figures::figures::figures_of;
 use reader::read::read;
 use reader::room::Room;
 use std::alloc::AllocError;
 use texts::all_or_nothing;
+use texts::fault::put_fault;
 
 /// Appends what is printed of a sheet's text. Where the buffer's room does not suffice and no memory is to be had, the buffer is left as it was.
 pub fn report(out: &mut Vec<u8>, text: &[u8], room: Room) -> Result<(), AllocError>

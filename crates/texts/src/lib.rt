@@ -6,6 +6,7 @@ ghost use Rattle.std.specs.Fmt.{signed_decimal};
 ghost use Rattle.std.specs.Fn.{FnOnceReturnsAtMut};
 ghost use Rattle.texts.specs.Puts.{Puts, PutsAs, Undone};
 
+pub mod fault;
 pub mod line;
 
 use itoa::Buffer;
