@@ -10,7 +10,7 @@ use Rattle.figures.specs.declared.figures.Figures.{Figures}
 use Rattle.report.specs.Plans.{FiguresOf}
 use Rattle.report.specs.Texts.{figures_lines, report_text}
 
--- The figures of a legal sheet, or the line of the fault.
+-- The report of a legal sheet, by figures that are its own, or the line of the fault.
 pub data Reports (t out : List ℕ) : Type 0 where
   figures : (p : Page) (f : Figures) → Written t p → FiguresOf p f → out ≡ report_text p f → Reports t out
   refusal : (f : Fault) → Refused t f → out ≡ fault_line f ++ end → Reports t out

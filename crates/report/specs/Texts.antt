@@ -10,13 +10,15 @@ use Rattle.ratios.specs.Words.{word_of}
 use Rattle.figures.specs.declared.figures.Figures.{Figures}
 use Rattle.figures.specs.Critical.{ring_tasks}
 
--- The words over the values of a report's three tables.
+-- The words over the values of the goal,
 abbrev pub goal_heading : List ℕ
 goal_heading = codes "goal cycle parts margin verdict\n"
 
+-- over those of the tasks,
 abbrev pub tasks_heading : List ℕ
 tasks_heading = codes "task lead pace alone start load\n"
 
+-- and over the critical ring.
 abbrev pub critical_heading : List ℕ
 critical_heading = codes "critical\n"
 
@@ -28,6 +30,7 @@ goal_line goal f = line_of (decimal goal ∷ decimal f.ratio.cycle ∷ decimal f
 abbrev pub task_cells : Entry → ℕ → ℕ → List (List ℕ)
 task_cells e start load = e.name ∷ decimal (offered e).lead ∷ decimal ((offered e).pace e.time) ∷ decimal ((offered e).worst e.time) ∷ decimal start ∷ decimal load ∷ []
 
+-- The line of task v.
 abbrev pub task_line : Page → Figures → ℕ → List ℕ
 task_line p f v = line_of (task_cells (entry_at p.tasks v) (slice_index f.starts v) (slice_index f.loads v))
 
