@@ -2,7 +2,7 @@ use faults::error::Error;
 use faults::fault::Fault;
 use faults::layer::Layer;
 use faults::reason::Reason;
-use figures::figures::figures_of;
+use figures::figures::{Figures, figures_of};
 use graph::graph::Graph;
 use graph::origin::Origin;
 use graph::parts::{Edge, Task};
@@ -84,10 +84,24 @@ fn punch_before_split(rt: HostRuntime) -> Result<(), Fail> {
     Ok(())
 }
 
-// Six tasks in a ring; a ring told from its first task, which the search meets last; links alone; two tokens in a ring, with a late and an early goal; half a thousandth.
+// The figures where each task has a processor of its own.
+fn on_own(
+    heap: Global,
+    goal: u64,
+    times: &[u64],
+    edges: &[(usize, usize, u64)],
+) -> Result<Figures, Error> {
+    let graph = graph_of(heap, goal, times, edges)?;
+    let rack = Row {
+        servers: vec![in heap; Own; times.len()]?,
+    };
+    Ok(figures_of(&graph, &rack)?)
+}
+
+// Tasks a, b1, b2, c1, c2 and d: the ring of b1 and b2 takes the most ticks per token.
 #[test]
-fn on_processors_of_their_own(rt: HostRuntime) -> Result<(), Fail> {
-    let six = [
+fn six_tasks(rt: HostRuntime) -> Result<(), Fail> {
+    let edges = [
         (0, 1, 0),
         (0, 2, 0),
         (0, 3, 0),
@@ -100,91 +114,61 @@ fn on_processors_of_their_own(rt: HostRuntime) -> Result<(), Fail> {
         (4, 5, 0),
         (5, 0, 2),
     ];
-    let three = [(2, 1, 0), (1, 0, 0), (0, 2, 1)];
-    let two_tokens = [(0, 1, 0), (1, 2, 1), (2, 0, 1)];
-    for (goal, times, edges, ratio, margin, starts, loads, critical) in [
+    let found = on_own(rt.alloc(), 32, &[2, 4, 4, 6, 6, 2], &edges)?;
+    assert_eq!(rt; (found.ratio.cycle, found.ratio.parts), (8, 1));
+    assert_eq!(rt; &found.starts[..6], [2, 6, 10, 8, 8, 12].as_slice());
+    assert_eq!(rt;
+        &found.loads[..6],
+        [250, 500, 500, 750, 750, 250].as_slice()
+    );
+    assert_eq!(rt; found.critical.as_slice(), [1, 2].as_slice());
+    Ok(())
+}
+
+// The edges stand so that the search walks the ring from its last task down.
+#[test]
+fn told_along_the_edges(rt: HostRuntime) -> Result<(), Fail> {
+    let edges = [(2, 1, 0), (1, 0, 0), (0, 2, 1)];
+    let found = on_own(rt.alloc(), 12, &[3, 4, 5], &edges)?;
+    assert_eq!(rt; (found.ratio.cycle, found.ratio.parts), (12, 1));
+    assert_eq!(rt; &found.starts[..3], [12, 9, 5].as_slice());
+    assert_eq!(rt; &found.loads[..3], [250, 333, 417].as_slice());
+    assert_eq!(rt; found.critical.as_slice(), [0, 2, 1].as_slice());
+    Ok(())
+}
+
+#[test]
+fn two_tokens_in_a_ring(rt: HostRuntime) -> Result<(), Fail> {
+    let edges = [(0, 1, 0), (1, 2, 1), (2, 0, 1)];
+    for (goal, margin, verdict) in [(4, -1, Verdict::Late), (5, 1, Verdict::Keeps)] {
+        let found = on_own(rt.alloc(), goal, &[3, 3, 3], &edges)?;
+        assert_eq!(rt; (found.ratio.cycle, found.ratio.parts), (9, 2));
+        assert_eq!(rt; (found.margin, found.verdict), (margin, verdict));
+        assert_eq!(rt; &found.starts[..3], [6, 12, 9].as_slice());
+        assert_eq!(rt; &found.loads[..3], [667, 667, 667].as_slice());
+        assert_eq!(rt; found.critical.as_slice(), [0, 1, 2].as_slice());
+    }
+    Ok(())
+}
+
+// The slowest task by itself: where the edges' ring has more tokens, and where there is none.
+#[test]
+fn a_link_alone(rt: HostRuntime) -> Result<(), Fail> {
+    for (times, edges, cycle, starts, loads) in [
         (
-            32,
-            &[2, 4, 4, 6, 6, 2][..],
-            &six[..],
-            (8, 1),
-            24,
-            &[2, 6, 10, 8, 8, 12][..],
-            &[250, 500, 500, 750, 750, 250][..],
-            &[1, 2][..],
-        ),
-        (
-            12,
-            &[3, 4, 5][..],
-            &three[..],
-            (12, 1),
-            0,
-            &[12, 9, 5][..],
-            &[250, 333, 417][..],
-            &[0, 2, 1][..],
-        ),
-        (
-            7,
-            &[7][..],
-            &[][..],
-            (7, 1),
-            0,
-            &[7][..],
-            &[1000][..],
-            &[0][..],
-        ),
-        (
-            4,
             &[2, 5][..],
             &[(0, 1, 0), (1, 0, 3)][..],
-            (5, 1),
-            -1,
-            &[2, 7][..],
-            &[400, 1000][..],
-            &[1][..],
-        ),
-        (
-            4,
-            &[3, 3, 3][..],
-            &two_tokens[..],
-            (9, 2),
-            -1,
-            &[6, 12, 9][..],
-            &[667, 667, 667][..],
-            &[0, 1, 2][..],
-        ),
-        (
             5,
-            &[3, 3, 3][..],
-            &two_tokens[..],
-            (9, 2),
-            1,
-            &[6, 12, 9][..],
-            &[667, 667, 667][..],
-            &[0, 1, 2][..],
+            [2, 7],
+            [400, 1000],
         ),
-        (
-            32,
-            &[1, 16][..],
-            &[][..],
-            (16, 1),
-            16,
-            &[1, 16][..],
-            &[63, 1000][..],
-            &[1][..],
-        ),
+        (&[1, 16][..], &[][..], 16, [1, 16], [63, 1000]),
     ] {
-        let graph = graph_of(rt.alloc(), goal, times, edges)?;
-        let rack = Row {
-            servers: vec![in rt.alloc(); Own; times.len()]?,
-        };
-        let found = figures_of(&graph, &rack)?;
-        assert_eq!(rt; (found.ratio.cycle, found.ratio.parts), ratio);
-        assert_eq!(rt; found.margin, margin);
-        assert_eq!(rt; found.verdict == Verdict::Keeps, margin >= 0);
-        assert_eq!(rt; &found.starts[..times.len()], starts);
-        assert_eq!(rt; &found.loads[..times.len()], loads);
-        assert_eq!(rt; found.critical.as_slice(), critical);
+        let found = on_own(rt.alloc(), 32, times, edges)?;
+        assert_eq!(rt; (found.ratio.cycle, found.ratio.parts), (cycle, 1));
+        assert_eq!(rt; &found.starts[..2], starts.as_slice());
+        assert_eq!(rt; &found.loads[..2], loads.as_slice());
+        assert_eq!(rt; found.critical.as_slice(), [1].as_slice());
     }
     Ok(())
 }
