@@ -4,7 +4,7 @@ use Rattle.std.proofs.lemmas.List.{take-take, take_at}
 use Rattle.texts.specs.Puts.{Added, Short, Puts}
 
 module _ {Z : Type 0} where
-  len_added : (v : Vec ℕ Z) (a : List ℕ) (w : Vec ℕ Z) → Added v a w → vec_len w ≡ vec_len v + length a
+  pub len_added : (v : Vec ℕ Z) (a : List ℕ) (w : Vec ℕ Z) → Added v a w → vec_len w ≡ vec_len v + length a
   len_added v a w e = w.ok.0 ∙ ap length e.items ∙ length-append (vec_items v) a ∙ ap (λ n. n + length a) (sym v.ok.0)
 
   pub both : (v : Vec ℕ Z) (a : List ℕ) (w : Vec ℕ Z) (b : List ℕ) (x : Vec ℕ Z) → Added v a w → Added w b x → Added v (a ++ b) x

@@ -5,6 +5,7 @@ ghost use Rattle.std.specs.List.{flat_map};
 ghost use Rattle.std.specs.Fn.{FnOnceReturnsAtMut};
 ghost use Rattle.texts.specs.Puts.{Puts, PutsAs, Undone};
 
+pub mod fault;
 pub mod line;
 
 use itoa::Buffer;
