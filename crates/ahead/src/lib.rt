@@ -1,0 +1,4 @@
+#![tactic(auto)]
+
+pub mod ahead;
+pub mod given;

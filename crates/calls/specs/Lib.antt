@@ -1,0 +1,4 @@
+pub mod Words
+pub mod Checks
+pub mod Written
+pub mod Fields
