@@ -65,7 +65,8 @@ module _ {R : Type 0} (places : R → ℕ) (service : R → ℕ → Service) (st
       Answers (why (net_of a.graph) slots (record { state = shown a.board; belt = x.belt }) call) (Err e) → Answers (why (net_of a.graph) slots x call) (Err e)
   refused_so a slots x like call e h = (h.0, sym (why_shown a slots x like call) ∙ h.1, h.2)
 
-  follows_on :
+  -- What a player has that follows a run.
+  pub follows_on :
       (first : R) (slots : ℕ) (said : List Said) (x : Whole) (q : Player R) (n : Net) → net_of q.runner.graph ≡ n → Led places steps first slots said q.runner x → room q.records ≡ slots → x.belt ≡ [] →
       (ended : ℕ → ℕ) → ((v : ℕ) → v < n.tasks → ended v ≡ x.state.fired v) → Knows n (by_worst n (service first)) (arrivals_of said) ended q.ledger →
       Follows places service steps first slots said x q

@@ -1,5 +1,5 @@
 -- A step: what its call printed, and what is then left of the line.
-use Rattle.std.proofs.Common.{◌≡◌, ℕ, ◌+◌, ◌^◌, ◌<◌, ◌≤◌, Bool, List, [], ◌++◌, decimal, length, Ok, Err, Result, IsOk, Vec, vec_items, vec_len, vec_capacity, refl, ap, ◌∙◌, append-nil, length-append, lit<, lit≤, arith}
+use Rattle.std.proofs.Common.{◌≡◌, ℕ, ◌+◌, ◌^◌, ◌<◌, ◌≤◌, Bool, List, [], ◌++◌, decimal, length, Ok, Err, Result, IsOk, Vec, vec_items, vec_len, vec_capacity, refl, sym, subst, ap, ◌∙◌, append-nil, length-append, lit<, lit≤, arith}
 use Rattle.std.proofs.lemmas.Fmt.{length-decimal-le}
 use Rattle.faults.specs.Faults.{fault_line}
 use Rattle.faults.specs.Numbers.{number_of}
@@ -14,8 +14,9 @@ use Rattle.lexer.specs.Text.{end}
 use Rattle.texts.specs.Puts.{Added, Puts as BytesPut}
 use Rattle.runs.specs.Runs.{Call}
 use Rattle.player.specs.Works.{call_of, left_after}
-use Rattle.player.specs.Players.{Does, Puts, Appended}
+use Rattle.player.specs.Players.{Does, Puts, Appended, Starved, Many, no_call, then, Gone}
 use Rattle.player.specs.declared.player.Player.{Player}
+use Rattle.texts.proofs.Chains.{both}
 use Rattle.player.proofs.Telling.{fits}
 
 word_short : (l : Layer) → length (word_of l) ≤ 6
@@ -48,7 +49,7 @@ number_small Length = lit< tt
 number_small Times = lit< tt
 
 -- A refusal's line is short.
-pub refusal_short : (f : Fault) → f.line < 2 ^ 32 → f.field < 2 ^ 32 → length (fault_line f ++ end) ≤ 78
+refusal_short : (f : Fault) → f.line < 2 ^ 32 → f.field < 2 ^ 32 → length (fault_line f ++ end) ≤ 78
 refusal_short f line field =
     let wide : 2 ^ 32 < 10 ^ 20 = lit< tt in
     let small : 2 ^ 32 < 2 ^ 64 = lit< tt in
@@ -70,6 +71,13 @@ pub record Roomy {Z : Type 0} (v u : Vec ℕ Z) : Type 0 where
 
 added_from : {Z : Type 0} (v u w : Vec ℕ Z) (bytes : List ℕ) → Roomy v u → Added u bytes w → Added v bytes w
 added_from v u w bytes r a = record { items = a.items ∙ ap (λ (l : List ℕ). l ++ bytes) r.items; room = omega (arith, a.room, r.more) }
+
+-- There is room for a refusal's line.
+pub refusal_put :
+    {Z : Type 0} (f : Fault) (v u w : Vec ℕ Z) {U E : Type 0} (answer : Result U E) → Roomy v u → f.line < 2 ^ 32 → f.field < 2 ^ 32 → BytesPut u (fault_line f ++ end) answer w → IsOk answer × Added v (fault_line f ++ end) w
+refusal_put f v u w answer roomy line field put =
+    let r = fits u (fault_line f ++ end) answer w put (omega (arith, refusal_short f line field, roomy.space)) in
+    (r.0, added_from v u w (fault_line f ++ end) roomy r.1)
 
 module _ {R : Type 0} (places : R → ℕ) (service : R → ℕ → Service) (steps : R → ℕ → Bool → Bool → R → Type 0) where
   -- What follows a run does so whatever is left of the line.
@@ -151,3 +159,22 @@ module _ {R : Type 0} (places : R → ℕ) (service : R → ℕ → Service) (st
         graph = d.graph;
         runs = λ first slots said x f. let c = d.runs first slots said x f in record { answers = c.answers; whole = c.whole; follows = c.follows; put = c.put; records = c.records; prints = c.prints };
       }
+
+  -- No call yet, and one more.
+  pub gone_none : {Z : Type 0} (p : Player R) (v : Vec ℕ Z) → Gone places service steps p v p v
+  gone_none p v = record { bytes = []; added = record { items = sym (append-nil (vec_items v)); room = omega arith }; many = no_call }
+
+  pub gone_more : {Z : Type 0} (p q r : Player R) (v u w : Vec ℕ Z) → Gone places service steps p v q u → 0 < q.work.left → Appended places service steps q u r w → Gone places service steps p v r w
+  gone_more p q r v u w g busy a = record { bytes = g.bytes ++ a.bytes; added = both v g.bytes u a.bytes w g.added a.added; many = then g.many (a.busy (omega arith)) }
+
+  -- Where memory lacks, the calls before that were made.
+  pub gone_starved :
+      {Z : Type 0} (p q r : Player R) (v u w : Vec ℕ Z) → Gone places service steps p v q u → Starved q u r w → Gone places service steps p v r w × (vec_capacity w < vec_len w + 1216)
+  gone_starved p q r v u w g s = (
+    record {
+      bytes = g.bytes;
+      added = record { items = s.items ∙ g.added.items; room = omega (arith, g.added.room, s.room) };
+      many = subst (λ (t : Player R). Many places service steps p g.bytes t) (sym s.same) g.many;
+    },
+    omega (arith, s.short, s.room, ap length s.items, u.ok.0, w.ok.0),
+  )

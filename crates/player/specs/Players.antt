@@ -1,5 +1,5 @@
 -- How a player stands for a run, and what its calls say and print.
-use Rattle.std.specs.Prelude.{◌≡◌, ℕ, ◌+◌, ◌<◌, ◌≤◌, Bool, List, [], ◌∷◌, ◌++◌, map, Ok, Err, IsErr, Result, Vec, vec_items, vec_len, vec_capacity}
+use Rattle.std.specs.Prelude.{◌≡◌, ℕ, ◌+◌, ◌<◌, ◌≤◌, ◌⊎◌, Bool, List, [], ◌∷◌, ◌++◌, map, Ok, Err, IsErr, Result, Vec, vec_items, vec_len, vec_capacity}
 use Rattle.std.specs.declared.alloc.AllocError.{AllocError}
 use Rattle.faults.specs.Faults.{fault_line}
 use Rattle.faults.specs.declared.fault.Fault.{Fault}
@@ -18,6 +18,13 @@ use Rattle.runner.specs.Runners.{Led, Answers, said_of}
 use Rattle.player.specs.Lines.{Lines}
 use Rattle.player.specs.Works.{call_of, left_after}
 use Rattle.player.specs.declared.player.Player.{Player}
+
+-- Where no memory is to be had, which a buffer with room for one call never wants, player and buffer are as they were.
+pub record Starved {R Z : Type 0} (p : Player R) (v : Vec ℕ Z) (q : Player R) (w : Vec ℕ Z) : Type 0 where
+  pub same : q ≡ p
+  pub items : vec_items w ≡ vec_items v
+  pub room : vec_capacity w ≡ vec_capacity v
+  pub short : vec_capacity v < vec_len v + 1216
 
 module _ {R : Type 0} (places : R → ℕ) (service : R → ℕ → Service) (steps : R → ℕ → Bool → Bool → R → Type 0) where
   -- What was said so leads to the player's runner, from a new one on the rack `first`; every record was taken off the belt; and the ledger knows the arrivals and the firings that ended.
@@ -76,12 +83,21 @@ module _ {R : Type 0} (places : R → ℕ) (service : R → ℕ → Service) (st
     pub idle : p.work.left ≡ 0 → (q ≡ p) × (bytes ≡ [])
     pub busy : 1 ≤ p.work.left → Steps p bytes q
 
-  -- Where no memory is to be had, which a buffer with room for one call never wants, player and buffer are as they were.
-  pub record Starved {Z : Type 0} (p : Player R) (v : Vec ℕ Z) (q : Player R) (w : Vec ℕ Z) : Type 0 where
-    pub same : q ≡ p
-    pub items : vec_items w ≡ vec_items v
-    pub short : vec_capacity v < vec_len v + 1216
-
   abbrev pub Stepped : {Z : Type 0} → Player R → Vec ℕ Z → Result Unit AllocError → Player R → Vec ℕ Z → Type 0
   Stepped p v (Ok _) q w = Appended p v q w
   Stepped p v (Err _) q w = Starved p v q w
+
+  -- Some calls of the line under way, one after another, and what they print.
+  pub data Many (p : Player R) : List ℕ → Player R → Type 0 where
+    no_call : Many p [] p
+    then : {bytes more : List ℕ} {q r : Player R} → Many p bytes q → Steps q more r → Many p (bytes ++ more) r
+
+  -- So many calls were made that the line is done, or that so many bytes are in the buffer.
+  pub record Gone {Z : Type 0} (p : Player R) (v : Vec ℕ Z) (q : Player R) (w : Vec ℕ Z) : Type 0 where
+    pub bytes : List ℕ
+    pub added : Added v bytes w
+    pub many : Many p bytes q
+
+  abbrev pub Went : {Z : Type 0} → Player R → Vec ℕ Z → ℕ → Result Unit AllocError → Player R → Vec ℕ Z → Type 0
+  Went p v most (Ok _) q w = Gone p v q w × ((q.work.left ≡ 0) ⊎ (most ≤ vec_len w))
+  Went p v most (Err _) q w = Gone p v q w × (vec_capacity w < vec_len w + 1216)

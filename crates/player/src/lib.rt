@@ -1,6 +1,7 @@
 #![tactic(auto)]
 
 mod lookup;
+pub mod opening;
 pub mod player;
 pub mod playing;
 mod records;

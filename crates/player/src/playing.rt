@@ -16,7 +16,7 @@ impl<'b, R: Rack> Player<'b, R> {
     ghost use Rattle.runs.specs.Runs.{arrive as arrival, need as need_of, tick as tick_with};
     ghost use Rattle.texts.specs.Puts.{Added};
     ghost use Rattle.player.specs.Works.{call_of};
-    ghost use Rattle.player.specs.Players.{Does, Puts, Stepped};
+    ghost use Rattle.player.specs.Players.{Does, Puts, Stepped, Went};
 
     // An arrival at the task, which the ledger knows too.
     fn arrive(&mut self, task: usize) -> Result<(), Fault>
@@ -84,6 +84,17 @@ impl<'b, R: Rack> Player<'b, R> {
                 self.work.left = 0;
                 put_fault(out, fault).unwrap();
             }
+        }
+        Ok(())
+    }
+
+    /// Makes calls of the line under way, until it is done or so many bytes are in the buffer.
+    /// Where the buffer lacks room and no memory is to be had, the calls before that were made.
+    pub fn go(&mut self, out: &mut Vec<u8>, most: usize) -> Result<(), AllocError>
+        ensures { Went R.Rack.places R.Rack.service R.Rack.steps self.old out.old most result self.new out.new }
+    {
+        while self.work.left > 0 && out.len() < most {
+            self.step(out)?;
         }
         Ok(())
     }
