@@ -22,16 +22,20 @@ module _ {R Z : Type 0} (p q : Player R) (line : CallLine) (v w : Vec ℕ Z) (wo
   line_taken is roomy = record {
     bytes = [];
     added = record { items = roomy.items ∙ sym (append-nil (vec_items v)); room = roomy.more };
-    work = work;
-    only = only;
-    is = subst (λ o. MatchOption o ((work.left ≡ 0) × ([] ≡ fault_line (fault 13 layer.Runner 0 0) ++ end)) (λ u. (work ≡ u) × (◌≡◌ {A = List ℕ} [] []))) (sym (asked (Some work) is)) (refl, refl);
+    takes = record {
+      work = work;
+      only = only;
+      is = subst (λ o. MatchOption o ((work.left ≡ 0) × ([] ≡ fault_line (fault 13 layer.Runner 0 0) ++ end)) (λ u. (work ≡ u) × (◌≡◌ {A = List ℕ} [] []))) (sym (asked (Some work) is)) (refl, refl);
+    };
   }
 
   pub line_refused : None ≡ work_in (names (map entry ts)) line → work.left ≡ 0 → Added v (fault_line (fault 13 layer.Runner 0 0) ++ end) w → Taken p line v q w
   line_refused is idle added = record {
     bytes = fault_line (fault 13 layer.Runner 0 0) ++ end;
     added = added;
-    work = work;
-    only = only;
-    is = subst (λ o. MatchOption o ((work.left ≡ 0) × (fault_line (fault 13 layer.Runner 0 0) ++ end ≡ fault_line (fault 13 layer.Runner 0 0) ++ end)) (λ u. (work ≡ u) × (fault_line (fault 13 layer.Runner 0 0) ++ end ≡ []))) (sym (asked None is)) (idle, refl);
+    takes = record {
+      work = work;
+      only = only;
+      is = subst (λ o. MatchOption o ((work.left ≡ 0) × (fault_line (fault 13 layer.Runner 0 0) ++ end ≡ fault_line (fault 13 layer.Runner 0 0) ++ end)) (λ u. (work ≡ u) × (fault_line (fault 13 layer.Runner 0 0) ++ end ≡ []))) (sym (asked None is)) (idle, refl);
+    };
   }

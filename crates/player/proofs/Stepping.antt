@@ -169,12 +169,14 @@ module _ {R : Type 0} (places : R → ℕ) (service : R → ℕ → Service) (st
 
   -- Where memory lacks, the calls before that were made.
   pub gone_starved :
-      {Z : Type 0} (p q r : Player R) (v u w : Vec ℕ Z) → Gone places service steps p v q u → Starved q u r w → Gone places service steps p v r w × (vec_capacity w < vec_len w + 1216)
-  gone_starved p q r v u w g s = (
+      {Z : Type 0} (p q r : Player R) (v u w : Vec ℕ Z) (most : ℕ) → vec_len u < most → Gone places service steps p v q u → Starved q u r w →
+      Gone places service steps p v r w × (vec_len w < most) × (vec_capacity w < vec_len w + 1216)
+  gone_starved p q r v u w most room g s = (
     record {
       bytes = g.bytes;
       added = record { items = s.items ∙ g.added.items; room = omega (arith, g.added.room, s.room) };
       many = subst (λ (t : Player R). Many places service steps p g.bytes t) (sym s.same) g.many;
     },
+    omega (arith, room, ap length s.items, u.ok.0, w.ok.0),
     omega (arith, s.short, s.room, ap length s.items, u.ok.0, w.ok.0),
   )

@@ -40,12 +40,16 @@ pub record Only {R : Type 0} (p : Player R) (w : Work) (q : Player R) : Type 0 w
   pub work : q.work ≡ w
 
 -- The line is under way, and nothing is printed yet; where no task has its name, no line is, and the refusal is printed.
-pub record Taken {R Z : Type 0} (p : Player R) (line : CallLine) (v : Vec ℕ Z) (q : Player R) (w : Vec ℕ Z) : Type 0 where
-  pub bytes : List ℕ
-  pub added : Added v bytes w
+pub record Takes {R : Type 0} (p : Player R) (line : CallLine) (bytes : List ℕ) (q : Player R) : Type 0 where
   pub work : Work
   pub only : Only p work q
   pub is : MatchOption (work_in (names (map entry (vec_items p.tasks))) line) ((work.left ≡ 0) × (bytes ≡ fault_line (fault 13 layer.Runner 0 0) ++ end)) (λ u. (work ≡ u) × (bytes ≡ []))
+
+-- So it is of a line that was taken, and what it prints is appended.
+pub record Taken {R Z : Type 0} (p : Player R) (line : CallLine) (v : Vec ℕ Z) (q : Player R) (w : Vec ℕ Z) : Type 0 where
+  pub bytes : List ℕ
+  pub added : Added v bytes w
+  pub takes : Takes p line bytes q
 
 abbrev pub Begins : {R Z : Type 0} → Player R → CallLine → Vec ℕ Z → Result Unit AllocError → Player R → Vec ℕ Z → Type 0
 Begins p line v (Ok _) q w = Taken p line v q w

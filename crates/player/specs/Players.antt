@@ -100,4 +100,4 @@ module _ {R : Type 0} (places : R → ℕ) (service : R → ℕ → Service) (st
 
   abbrev pub Went : {Z : Type 0} → Player R → Vec ℕ Z → ℕ → Result Unit AllocError → Player R → Vec ℕ Z → Type 0
   Went p v most (Ok _) q w = Gone p v q w × ((q.work.left ≡ 0) ⊎ (most ≤ vec_len w))
-  Went p v most (Err _) q w = Gone p v q w × (vec_capacity w < vec_len w + 1216)
+  Went p v most (Err _) q w = Gone p v q w × (vec_len w < most) × (vec_capacity w < vec_len w + 1216)
