@@ -15,7 +15,7 @@ use Rattle.runner.proofs.Calls.{alike_arrived, alike_need}
 
 module _ (n m : Net) (nets : SameNet n m) (slots : ℕ) where
   -- the same reason
-  same_why : (x y : Whole) → Alike n x.state y.state → y.belt ≡ x.belt → (call : Call) → why m slots y call ≡ why n slots x call
+  pub same_why : (x y : Whole) → Alike n x.state y.state → y.belt ≡ x.belt → (call : Call) → why m slots y call ≡ why n slots x call
   same_why x y like belt (arrive v) =
       ⊎_elim
       (λ h. rw (nets.tasks, nets.inlet v h, like.waiting v h) refl)

@@ -11,11 +11,11 @@ use Rattle.servers.specs.Service.{Service}
 use Rattle.belt.specs.Belts.{contents, room}
 use Rattle.flow.specs.Nets.{Net, net_of}
 use Rattle.runs.specs.States.{put_out, ticked}
-use Rattle.runs.specs.Runs.{tick, refused, Whole, why, Run, refuses, ticks}
+use Rattle.runs.specs.Runs.{Said, done, tick, refused, Whole, why, Run, refuses, ticks}
 use Rattle.runs.proofs.Forget.{Shows, run_stays}
-use Rattle.runner.specs.Boards.{shown}
+use Rattle.runner.specs.Boards.{shown, Alike}
 use Rattle.runner.specs.Records.{told, lying}
-use Rattle.runner.specs.Runners.{GoesOn, TickDone}
+use Rattle.runner.specs.Runners.{Led, GoesOn, TickDone}
 use Rattle.runner.specs.declared.record.Record.{Record}
 use Rattle.runner.specs.declared.runner.Runner.{Runner}
 use Rattle.runner.proofs.Alikes.{one_net, alike_ticked, same_put}
@@ -57,21 +57,35 @@ module _ {R : Type 0} (places : R → ℕ) (steps : R → ℕ → Bool → Bool 
     its_belt = lies;
   }
 
-  pub tick_goes_on :
-      (service : R → ℕ → Service) → Shows places service steps → (b : Runner R) (after : List (Option Record)) → TickDone places steps a before claims b after →
-      ((x : Whole) → x.state.clock ≡ a.board.clock → length x.belt ≡ length (contents before) → why (net_of a.graph) (room before) x (tick claims) ≡ None) →
-      GoesOn places steps a before (tick claims) (Ok tt) b after
-  tick_goes_on service shows b after d reason first said x led lies =
-      let n = net_of a.graph in
-      let enough : vec_len a.graph.tasks ≤ places a.rack = omega (arith, led.fits, run_stays places service steps shows n first (room before) led.fits led.run) in
-      let run = ticks led.run claims d.grants (reason x (sym led.stands.clock) (ap length lies ∙ length-map (contents before) told)) (d.sweep enough) in
-      record {
-        whole = record { state = ticked n d.grants x.state; belt = x.belt ++ put_out n x.state d.grants n.tasks };
-        led = record {
+  module _ (service : R → ℕ → Service) (shows : Shows places service steps) (b : Runner R) (after : List (Option Record)) (d : TickDone places steps a before claims b after) where
+    -- A run to runner a goes on by the tick.
+    pub tick_leads :
+        (first : R) (slots : ℕ) (said : List Said) (x : Whole) → Led places steps first slots said a x → why (net_of a.graph) slots x (tick claims) ≡ None →
+        Led places steps first slots (done (tick claims) ∷ said) b (record { state = ticked (net_of a.graph) d.grants x.state; belt = x.belt ++ put_out (net_of a.graph) x.state d.grants (vec_len a.graph.tasks) })
+    tick_leads first slots said x led reason =
+        let n = net_of a.graph in
+        let enough : vec_len a.graph.tasks ≤ places a.rack = omega (arith, led.fits, run_stays places service steps shows n first slots led.fits led.run) in
+        let run = ticks led.run claims d.grants reason (d.sweep enough) in
+        record {
           fits = rw d.its_graph led.fits;
           run = rw d.its_graph run;
           stands = rw d.its_graph (alike_by n (shown b.board) (ticked n d.grants (shown a.board)) (ticked n d.grants x.state) d.stands
               (alike_ticked n n (one_net n) (shown a.board) x.state led.stands d.grants (λ e h. a.graph.ends.to e (omega (arith, h, a.graph.edges.ok.0))) (λ e h. a.graph.ends.from e (omega (arith, h, a.graph.edges.ok.0)))));
-        };
-        its_belt = ap (λ ws. ws ++ put_out n x.state d.grants n.tasks) lies ∙ ap (λ ws. lying (contents before) ++ ws) (sym (same_put n n (one_net n) (shown a.board) x.state led.stands d.grants n.tasks (omega arith))) ∙ sym d.records;
-      }
+        }
+
+    -- The records that the model puts are those that lie on the belt behind those before.
+    pub tick_puts :
+        (x : Whole) → Alike (net_of a.graph) (shown a.board) x.state →
+        lying (contents before) ++ put_out (net_of a.graph) x.state d.grants (vec_len a.graph.tasks) ≡ lying (contents after)
+    tick_puts x stands =
+        let n = net_of a.graph in
+        ap (λ ws. lying (contents before) ++ ws) (sym (same_put n n (one_net n) (shown a.board) x.state stands d.grants n.tasks (omega arith))) ∙ sym d.records
+
+    pub tick_goes_on :
+        ((x : Whole) → x.state.clock ≡ a.board.clock → length x.belt ≡ length (contents before) → why (net_of a.graph) (room before) x (tick claims) ≡ None) →
+        GoesOn places steps a before (tick claims) (Ok tt) b after
+    tick_goes_on reason first said x led lies = record {
+      whole = record { state = ticked (net_of a.graph) d.grants x.state; belt = x.belt ++ put_out (net_of a.graph) x.state d.grants (vec_len a.graph.tasks) };
+      led = tick_leads first (room before) said x led (reason x (sym led.stands.clock) (ap length lies ∙ length-map (contents before) told));
+      its_belt = ap (λ ws. ws ++ put_out (net_of a.graph) x.state d.grants (vec_len a.graph.tasks)) lies ∙ tick_puts x led.stands;
+    }

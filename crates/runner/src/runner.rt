@@ -65,6 +65,20 @@ impl<R: Rack> Runner<R> {
         Ok(Runner { graph, rack, board })
     }
 
+    /// The graph of the tasks.
+    pub fn graph(&self) -> &Graph
+        ensures { result.now ≡ self.now.graph }
+    {
+        &self.graph
+    }
+
+    /// How many ticks were done.
+    pub fn clock(&self) -> u64
+        ensures { result ≡ (shown self.now.board).clock }
+    {
+        self.board.clock()
+    }
+
     /// An arrival at the task's inlet, at the present clock.
     pub fn arrive(&mut self, task: usize) -> Result<(), Fault>
         ensures answers { Answers (why (net_of self.old.graph) 0 (shown_whole self.old) (arrival task)) result }
@@ -112,7 +126,7 @@ impl<R: Rack> Runner<R> {
         if claims.len() != tasks {
             return Err(refuses(Reason::Missing));
         }
-        if self.board.clock() >= LAST_CLOCK {
+        if self.clock() >= LAST_CLOCK {
             return Err(refuses(Reason::ClockSpent));
         }
         if belt.free() < tasks {

@@ -162,3 +162,9 @@ not_early places steps n sound first fits slots said a x run v i c h =
       fed = p.fed;
       came = λ q. (omega (arith, u.base.wait_count v p.task q, p.firing, ap (λ (α : Arrivals). α.count v) e), omega (arith, p.came q, ap (λ (α : Arrivals). α.stamp v i) e));
     }
+
+-- A firing that has a record counts as ended.
+pub ended_counts :
+    {R : Type 0} (steps : R → ℕ → Bool → Bool → R → Type 0) (n : Net) → Sound n → (first : R) (slots : ℕ) {said : List Said} {a : R} {x : Whole} → Run steps n first slots said a x →
+    (v i c : ℕ) → Ended x.state v i c → i < x.state.fired v
+ended_counts steps n sound first slots run v i c h = ((sure n sound steps first slots run).put v i c h).firing

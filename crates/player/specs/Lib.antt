@@ -1,0 +1,4 @@
+pub mod Lines
+pub mod Works
+pub mod Players
+pub mod Openings

@@ -1,0 +1,156 @@
+-- How what is read and worked off carries on what was printed.
+use Rattle.std.proofs.Common.{◌≡◌, ℕ, ◌≤◌, ◌⊎◌, inl, Bool, List, [], ◌∷◌, ◌++◌, take, Ok, Err, Result, MatchResult, Vec, vec_items, vec_len, vec_capacity, sym, refl, ap, ◌∙◌, subst, append-nil, append_assoc, arith}
+use Rattle.std.specs.declared.alloc.AllocError.{AllocError}
+use Rattle.faults.specs.Faults.{fault_line}
+use Rattle.faults.specs.declared.fault.Fault as fault
+use Rattle.servers.specs.Service.{Service}
+use Rattle.belt.specs.Belts.{contents}
+use Rattle.lexer.specs.Text.{end}
+use Rattle.texts.specs.Puts.{Added}
+use Rattle.texts.proofs.Chains.{both}
+use Rattle.calls.specs.declared.call_line.CallLine.{CallLine}
+use Rattle.ahead.specs.declared.given.Given.{Given}
+use Rattle.ahead.specs.declared.given.Given.TheVariants.{Call, Fault}
+use Rattle.ahead.specs.Texts.{Whole}
+use Rattle.ahead.specs.Texts.{Reads as IsRead}
+use Rattle.ahead.specs.Steps.{Carried, TooLong}
+use Rattle.player.specs.Openings.{Taken}
+use Rattle.player.specs.Players.{Many, no_call, then, Went}
+use Rattle.player.specs.declared.player.Player.{Player}
+use Rattle.session.specs.Played.{Played, taken, stepped, refused}
+use Rattle.session.specs.Sessions.{Idle, Reads, Prints, Finishes, WorksOff, Worked, Closes}
+use Rattle.session.specs.declared.session.Session.{Session}
+
+-- one more, and then the rest
+onto : {A : Type 0} (xs : List A) (y : A) (zs : List A) → (xs ++ y ∷ []) ++ zs ≡ xs ++ (y ∷ zs)
+onto xs y zs = append_assoc xs (y ∷ []) zs
+
+module _ {R : Type 0} (places : R → ℕ) (service : R → ℕ → Service) (steps : R → ℕ → Bool → Bool → R → Type 0) where
+  -- Many calls, one by one.
+  played_many :
+      (first : Player R) (gs : List Given) (printed : List ℕ) (p : Player R) → Played places service steps first gs printed p → {bytes : List ℕ} {q : Player R} → Many places service steps p bytes q →
+      Played places service steps first gs (printed ++ bytes) q
+  played_many first gs printed p h {q = q} no_call = subst (λ l. Played places service steps first gs l q) (sym (append-nil printed)) h
+  played_many first gs printed p h (then {bytes = bytes} {more = more} {r = r} m s) =
+      subst (λ l. Played places service steps first gs l r) (append_assoc printed bytes more) (stepped (played_many first gs printed p h m) s)
+
+  reads_on : (s : Session R) (bytes : List ℕ) (n : ℕ) (r : Session R) → r.player ≡ s.player → Carried s.ahead s.given bytes n r.ahead r.given → Reads places service steps s bytes n r
+  reads_on s bytes n r same c p t printed h =
+      let all : (h.gs ++ contents s.given) ++ c.put ≡ h.gs ++ contents r.given = append_assoc h.gs (contents s.given) c.put ∙ ap (λ l. h.gs ++ l) (sym c.belt) in
+      record {
+        gs = h.gs;
+        reads = subst (λ l. IsRead (t ++ take n bytes) l r.ahead) all (c.reads t (h.gs ++ contents s.given) h.reads);
+        played = subst (λ q. Played places service steps p h.gs printed q) (sym same) h.played;
+      }
+
+  pub reads_some :
+      (s : Session R) (bytes : List ℕ) (r : Session R) (answer : Result ℕ AllocError) → r.player ≡ s.player →
+      MatchResult answer (λ n. Carried s.ahead s.given bytes n r.ahead r.given) (λ _. (n : ℕ) × Carried s.ahead s.given bytes n r.ahead r.given × TooLong s.ahead bytes n r.ahead) →
+      MatchResult answer (λ n. Reads places service steps s bytes n r) (λ _. (n : ℕ) × Reads places service steps s bytes n r)
+  reads_some s bytes r (Ok n) same c = reads_on s bytes n r same c
+  reads_some s bytes r (Err e) same c = (c.0, reads_on s bytes c.0 r same c.1)
+
+  -- What was read where nothing is left of it.
+  read_idle : (s : Session R) → Idle s → (gs : List Given) (t : List ℕ) → IsRead t (gs ++ contents s.given) s.ahead → IsRead t gs s.ahead
+  read_idle s idle gs t h = subst (λ l. IsRead t l s.ahead) (ap (λ l. gs ++ l) idle.given ∙ append-nil gs) h
+
+  pub finishes : (s : Session R) → Idle s → ((t more : List ℕ) (gs : List Given) → IsRead t gs s.ahead → Whole (t ++ more) gs) → Finishes places service steps s
+  finishes s idle whole p t printed more h = record { gs = h.gs; last = s.player; whole = whole t more h.gs (read_idle s idle h.gs t h.reads); played = h.played; idle = idle.player }
+
+  pub closes_so :
+      {Z : Type 0} (s : Session R) (v w : Vec ℕ Z) → vec_items w ≡ vec_items v → vec_capacity v ≤ vec_capacity w → ((t : List ℕ) (gs : List Given) → IsRead t gs s.ahead → Whole t gs) → Closes places service steps s v w
+  closes_so s v w items room whole = record {
+    bytes = [];
+    added = record { items = items ∙ sym (append-nil (vec_items v)); room = room };
+    all = λ idle p t printed h. record {
+      gs = h.gs;
+      last = s.player;
+      whole = whole t h.gs (read_idle s idle h.gs t h.reads);
+      played = subst (λ l. Played places service steps p h.gs l s.player) (sym (append-nil printed)) h.played;
+      idle = idle.player;
+    };
+  }
+
+  pub closes_refused :
+      {Z : Type 0} (s : Session R) (f : fault.Fault) (v w : Vec ℕ Z) → Added v (fault_line f ++ end) w → ((t : List ℕ) (gs : List Given) → IsRead t gs s.ahead → Whole t (gs ++ Fault f ∷ [])) → Closes places service steps s v w
+  closes_refused s f v w added whole = record {
+    bytes = fault_line f ++ end;
+    added = added;
+    all = λ idle p t printed h. record {
+      gs = h.gs ++ Fault f ∷ [];
+      last = s.player;
+      whole = whole t h.gs (read_idle s idle h.gs t h.reads);
+      played = refused h.played idle.player f;
+      idle = idle.player;
+    };
+  }
+
+  pub worked_call :
+      {Z : Type 0} (s : Session R) (given : Given) (line : CallLine) (q r : Player R) (v u w : Vec ℕ Z) → given ≡ Call line → s.player.work.left ≡ 0 → Taken s.player line v q u → Went places service steps q u 4096 (Ok tt) r w →
+      Worked places service steps s given v (record { player = r; ahead = s.ahead; given = s.given }) w
+  worked_call s given line q r v u w is idle t went =
+      let g = went.0 in
+      record {
+        bytes = t.bytes ++ g.bytes;
+        added = both v t.bytes u g.bytes w t.added g.added;
+        given = refl;
+        ahead = refl;
+        played = λ p gs printed h.
+            subst (λ (k : Given). Played places service steps p (gs ++ k ∷ []) (printed ++ (t.bytes ++ g.bytes)) r) (sym is)
+            (subst (λ l. Played places service steps p (gs ++ Call line ∷ []) l r) (append_assoc printed t.bytes g.bytes) (played_many p (gs ++ Call line ∷ []) (printed ++ t.bytes) q (taken h idle line t.takes) g.many));
+        until = went.1;
+      }
+
+  pub worked_fault :
+      {Z : Type 0} (s : Session R) (given : Given) (f : fault.Fault) (v w : Vec ℕ Z) → given ≡ Fault f → s.player.work.left ≡ 0 → Added v (fault_line f ++ end) w → Worked places service steps s given v s w
+  worked_fault s given f v w is idle added = record {
+    bytes = fault_line f ++ end;
+    added = added;
+    given = refl;
+    ahead = refl;
+    played = λ p gs printed h. subst (λ (k : Given). Played places service steps p (gs ++ k ∷ []) (printed ++ (fault_line f ++ end)) s.player) (sym is) (refused h idle f);
+    until = inl idle;
+  }
+
+  -- What is worked off so far, in a buffer with room for the rest.
+  pub record Working {Z : Type 0} (s : Session R) (v : Vec ℕ Z) (r : Session R) (w : Vec ℕ Z) : Type 0 where
+    pub bytes : List ℕ
+    pub added : Added v bytes w
+    pub prints : Prints places service steps s bytes r
+    pub until : (r.player.work.left ≡ 0) ⊎ (4096 ≤ vec_len w)
+    pub space : 5312 ≤ vec_capacity w
+
+  -- the line that was under way
+  pub working_line :
+      {Z : Type 0} (s r : Session R) (v u w : Vec ℕ Z) → vec_items u ≡ vec_items v → vec_capacity v ≤ vec_capacity u → 5312 ≤ vec_capacity u → r.ahead ≡ s.ahead → r.given ≡ s.given →
+      Went places service steps s.player u 4096 (Ok tt) r.player w → Working s v r w
+  working_line s r v u w items more space ahead given went =
+      let g = went.0 in
+      record {
+        bytes = g.bytes;
+        added = record { items = g.added.items ∙ ap (λ l. l ++ g.bytes) items; room = omega (arith, g.added.room, more) };
+        prints = λ p t printed h. record { gs = h.gs; reads = rw (ahead, given) h.reads; played = played_many p h.gs printed s.player h.played g.many };
+        until = went.1;
+        space = omega (arith, g.added.room, space);
+      }
+
+  -- one more line that was read
+  pub working_more :
+      {Z : Type 0} (s q r : Session R) (g : Given) (t : Session R) (v u w : Vec ℕ Z) → Working s v q u → contents q.given ≡ g ∷ contents t.given → t.player ≡ q.player → t.ahead ≡ q.ahead →
+      Worked places service steps t g u r w → Working s v r w
+  working_more s q r g t v u w old next player ahead k = record {
+    bytes = old.bytes ++ k.bytes;
+    added = both v old.bytes u k.bytes w old.added k.added;
+    prints = λ p text printed h.
+        let o = old.prints p text printed h in
+        record {
+          gs = o.gs ++ g ∷ [];
+          reads = rw k.ahead (rw ahead (subst (λ l. IsRead text l q.ahead) (ap (λ l. o.gs ++ l) next ∙ sym (onto o.gs g (contents t.given)) ∙ ap (λ c. (o.gs ++ g ∷ []) ++ contents c) (sym k.given)) o.reads));
+          played = subst (λ l. Played places service steps p (o.gs ++ g ∷ []) l r.player) (append_assoc printed old.bytes k.bytes) (k.played p o.gs (printed ++ old.bytes) (rw player o.played));
+        };
+    until = k.until;
+    space = omega (arith, k.added.room, old.space);
+  }
+
+  pub worked_off : {Z : Type 0} (s r : Session R) (v w : Vec ℕ Z) → Working s v r w → (Idle r ⊎ (4096 ≤ vec_len w)) → WorksOff places service steps s v r w
+  worked_off s r v w k until = record { bytes = k.bytes; added = k.added; prints = k.prints; until = until }

@@ -1,0 +1,79 @@
+-- What a session has printed of the text that it read, and how its calls carry that on.
+use Rattle.std.specs.Prelude.{◌≡◌, ℕ, ◌+◌, ◌<◌, ◌≤◌, ◌⊎◌, Bool, List, [], ◌∷◌, ◌++◌, take, Ok, Err, Result, Vec, vec_items, vec_len, vec_capacity}
+use Rattle.std.specs.declared.alloc.AllocError.{AllocError}
+use Rattle.servers.specs.Service.{Service}
+use Rattle.belt.specs.Belts.{contents}
+use Rattle.texts.specs.Puts.{Added}
+use Rattle.ahead.specs.Texts.{Whole}
+use Rattle.ahead.specs.Texts.{Reads as IsRead}
+use Rattle.ahead.specs.declared.given.Given.{Given}
+use Rattle.player.specs.declared.player.Player.{Player}
+use Rattle.session.specs.Played.{Played}
+use Rattle.session.specs.declared.session.Session.{Session}
+
+-- No line is under way, and none that was read is left.
+pub record Idle {R : Type 0} (s : Session R) : Type 0 where
+  pub player : s.player.work.left ≡ 0
+  pub given : contents s.given ≡ []
+
+module _ {R : Type 0} (places : R → ℕ) (service : R → ℕ → Service) (steps : R → ℕ → Bool → Bool → R → Type 0) where
+  -- From the player p this text was read, and these bytes are printed of its first lines; what the others gave lies on the belt.
+  pub record Plays (p : Player R) (t bytes : List ℕ) (s : Session R) : Type 0 where
+    pub gs : List Given
+    pub reads : IsRead t (gs ++ contents s.given) s.ahead
+    pub played : Played places service steps p gs bytes s.player
+
+  -- These bytes are all that is printed of a whole text. How it was cut as it was read does not show in them.
+  pub record PlaysAll (p : Player R) (t bytes : List ℕ) : Type 0 where
+    pub gs : List Given
+    pub last : Player R
+    pub whole : Whole t gs
+    pub played : Played places service steps p gs bytes last
+    pub idle : last.work.left ≡ 0
+
+  -- The first n of these bytes are read, and nothing is printed.
+  abbrev pub Reads : Session R → List ℕ → ℕ → Session R → Type 0
+  Reads s bytes n r = (p : Player R) (t printed : List ℕ) → Plays p t printed s → Plays p (t ++ take n bytes) printed r
+
+  -- These bytes are printed, and nothing is read.
+  abbrev pub Prints : Session R → List ℕ → Session R → Type 0
+  Prints s bytes r = (p : Player R) (t printed : List ℕ) → Plays p t printed s → Plays p t (printed ++ bytes) r
+
+  -- Whatever comes behind the text that was read, all that it prints is printed.
+  abbrev pub Finishes : Session R → Type 0
+  Finishes s = (p : Player R) (t printed more : List ℕ) → Plays p t printed s → PlaysAll p (t ++ more) printed
+
+  -- What was read is worked off, or as many bytes are in the buffer as are to be written at once.
+  pub record WorksOff {Z : Type 0} (s : Session R) (v : Vec ℕ Z) (r : Session R) (w : Vec ℕ Z) : Type 0 where
+    pub bytes : List ℕ
+    pub added : Added v bytes w
+    pub prints : Prints s bytes r
+    pub until : Idle r ⊎ (4096 ≤ vec_len w)
+
+  pub record Stays {Z : Type 0} (s : Session R) (v : Vec ℕ Z) (r : Session R) (w : Vec ℕ Z) : Type 0 where
+    pub same : r ≡ s
+    pub items : vec_items w ≡ vec_items v
+    pub short : vec_capacity v < vec_len v + 5312
+
+  abbrev pub Works : {Z : Type 0} → Session R → Vec ℕ Z → Result Unit AllocError → Session R → Vec ℕ Z → Type 0
+  Works s v (Ok _) r w = WorksOff s v r w
+  Works s v (Err _) r w = Stays s v r w
+
+  -- One line that was given is played, so far as the buffer goes.
+  pub record Worked {Z : Type 0} (s : Session R) (g : Given) (v : Vec ℕ Z) (r : Session R) (w : Vec ℕ Z) : Type 0 where
+    pub bytes : List ℕ
+    pub added : Added v bytes w
+    pub given : r.given ≡ s.given
+    pub ahead : r.ahead ≡ s.ahead
+    pub played : (p : Player R) (gs : List Given) (printed : List ℕ) → Played places service steps p gs printed s.player → Played places service steps p (gs ++ g ∷ []) (printed ++ bytes) r.player
+    pub until : (r.player.work.left ≡ 0) ⊎ (4096 ≤ vec_len w)
+
+  -- Where all that was read is worked off, what is printed then is all of the text.
+  pub record Closes {Z : Type 0} (s : Session R) (v w : Vec ℕ Z) : Type 0 where
+    pub bytes : List ℕ
+    pub added : Added v bytes w
+    pub all : Idle s → (p : Player R) (t printed : List ℕ) → Plays p t printed s → PlaysAll p t (printed ++ bytes)
+
+  abbrev pub Ends : {Z : Type 0} → Session R → Vec ℕ Z → Result Unit AllocError → Vec ℕ Z → Type 0
+  Ends s v (Ok _) w = Closes s v w
+  Ends s v (Err _) w = (vec_items w ≡ vec_items v) × (vec_capacity v < vec_len v + 1216)

@@ -1,0 +1,5 @@
+#![tactic(auto)]
+
+pub mod opening;
+pub mod session;
+pub mod working;
