@@ -19,6 +19,15 @@ impl Fault {
         }
     }
 
+    pub fn server(number: u32, line: usize) -> Fault {
+        Fault {
+            layer: "server",
+            number,
+            line,
+            field: 0,
+        }
+    }
+
     pub fn graph(number: u32, line: usize) -> Fault {
         Fault {
             layer: "graph",

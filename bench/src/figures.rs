@@ -100,36 +100,51 @@ fn starts_at(spans: &[Span], arcs: &[Arc], ratio: &Ratio) -> Result<Vec<i64>, Ve
     }
 }
 
+fn spans_of(sheet: &Sheet) -> Vec<Span> {
+    let tasks = sheet.tasks.iter();
+    tasks
+        .map(|task| Span {
+            lead: task.server.lead(),
+            pace: task.server.pace(task.time),
+            alone: task.server.worst(task.time),
+        })
+        .collect()
+}
+
+fn arcs_of(sheet: &Sheet, spans: &[Span]) -> Vec<Arc> {
+    let edges = sheet.edges.iter();
+    edges
+        .map(|edge| Arc {
+            from: edge.from,
+            to: edge.to,
+            weight: (spans[edge.to].lead + spans[edge.to].pace) as i64,
+            tokens: edge.tokens as i64,
+        })
+        .collect()
+}
+
+/// The ratio of the slowest task by itself.
+fn slowest(spans: &[Span]) -> Ratio {
+    let tasks = (0..spans.len()).rev();
+    let task = tasks.max_by_key(|task| spans[*task].pace).unwrap_or(0);
+    Ratio {
+        cycle: spans[task].pace as i64,
+        parts: 1,
+        ring: vec![task],
+    }
+}
+
+/// 1000 × pace × parts ÷ cycle, halves up.
+fn load_of(span: &Span, cycle: u64, parts: u64) -> u64 {
+    (2000 * span.pace * parts + cycle) / (2 * cycle)
+}
+
 impl Figures {
     pub fn of(sheet: &Sheet) -> Figures {
-        let spans: Vec<Span> = sheet
-            .tasks
-            .iter()
-            .map(|task| Span {
-                lead: task.server.lead(),
-                pace: task.server.pace(task.time),
-                alone: task.server.worst(task.time),
-            })
-            .collect();
-        let arcs: Vec<Arc> = sheet
-            .edges
-            .iter()
-            .map(|edge| Arc {
-                from: edge.from,
-                to: edge.to,
-                weight: (spans[edge.to].lead + spans[edge.to].pace) as i64,
-                tokens: edge.tokens as i64,
-            })
-            .collect();
-        let slowest = (0..spans.len())
-            .rev()
-            .max_by_key(|task| spans[*task].pace)
-            .unwrap_or(0);
-        let mut ratio = Ratio {
-            cycle: spans[slowest].pace as i64,
-            parts: 1,
-            ring: vec![slowest],
-        };
+        let spans = spans_of(sheet);
+        let arcs = arcs_of(sheet, &spans);
+        let mut ratio = slowest(&spans);
+        // The ratio grows by rings above it until there is none.
         let starts = loop {
             match starts_at(&spans, &arcs, &ratio) {
                 Ok(starts) => break starts,
@@ -137,14 +152,15 @@ impl Figures {
             }
         };
         let (cycle, parts) = (ratio.cycle as u64, ratio.parts as u64);
-        let load = |span: &Span| {
-            (2000 * u128::from(span.pace * parts) + u128::from(cycle)) / (2 * u128::from(cycle))
-        };
+        let loads = spans
+            .iter()
+            .map(|span| load_of(span, cycle, parts))
+            .collect();
         Figures {
             cycle,
             parts,
             margin: sheet.goal as i64 * ratio.parts - ratio.cycle,
-            loads: spans.iter().map(|span| load(span) as u64).collect(),
+            loads,
             spans,
             starts,
             critical: ratio.ring,

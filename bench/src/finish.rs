@@ -83,58 +83,77 @@ impl Ledger {
     }
 }
 
-/// The finish table by the rule as it is written: the worst wait is asked for at every pair of firings.
+/// A table under way.
+struct Filling<'a> {
+    sheet: &'a Sheet,
+    n: usize,
+    times: &'a [u64],
+    /// Which row of the times is each task's, if it has an inlet.
+    rows: Vec<Option<usize>>,
+    ready: Vec<u64>,
+}
+
+impl Filling<'_> {
+    fn ready_at(&self, table: &[u64], v: usize, i: usize) -> u64 {
+        let edges = self.sheet.edges.iter();
+        let fed = edges
+            .filter(|edge| edge.to == v && edge.tokens as usize <= i)
+            .map(|edge| table[edge.from * self.n + i - edge.tokens as usize]);
+        let arrival = self.rows[v].map_or(0, |row| self.times[row * self.n + i]);
+        fed.fold(arrival, u64::max)
+    }
+
+    /// The finish bound by the rule as it is written: the worst wait is asked for at every firing k up to i.
+    fn bound(&mut self, table: &[u64], v: usize, i: usize) -> u64 {
+        self.ready[v * self.n + i] = self.ready_at(table, v, i);
+        let task = &self.sheet.tasks[v];
+        let wait = |k: usize| task.server.worst((i - k + 1) as u64 * task.time);
+        let sums = (0..=i).map(|k| self.ready[v * self.n + k] + wait(k));
+        sums.fold(0, u64::max)
+    }
+}
+
+/// The row of times of each task that has an inlet.
+fn rows_of(sheet: &Sheet) -> Vec<Option<usize>> {
+    let mut rows = 0..;
+    let tasks = sheet.tasks.iter();
+    tasks
+        .map(|task| if task.inlet { rows.next() } else { None })
+        .collect()
+}
+
 pub fn finish_table(
     sheet: &Sheet,
     n: usize,
     times: &[u64],
     table: &mut [u64],
 ) -> Result<(), Fault> {
-    let inlets = sheet.tasks.iter().filter(|task| task.inlet).count();
-    if !(1..=MOST_FIRINGS).contains(&n)
-        || times.len() != inlets * n
-        || table.len() != sheet.tasks.len() * n
-    {
+    let rows = rows_of(sheet);
+    let inlets = rows.iter().flatten().count();
+    let entries = sheet.tasks.len() * n;
+    if !(1..=MOST_FIRINGS).contains(&n) || times.len() != inlets * n || table.len() != entries {
         return Err(Fault::table(18));
     }
     let falls = |row: &[u64]| row.windows(2).any(|pair| pair[1] < pair[0]);
     if times.iter().any(|time| *time > CEILING) || times.chunks(n).any(falls) {
         return Err(Fault::table(19));
     }
-    let mut row = 0;
-    let rows: Vec<Option<usize>> = sheet
-        .tasks
-        .iter()
-        .map(|task| {
-            row += usize::from(task.inlet);
-            task.inlet.then_some(row.wrapping_sub(1))
-        })
-        .collect();
+    let ready = vec![0; entries];
+    let mut filling = Filling {
+        sheet,
+        n,
+        times,
+        rows,
+        ready,
+    };
     let order = sheet.order();
-    let mut ready = vec![0; sheet.tasks.len() * n];
-    for i in 0..n {
-        for &v in &order {
-            let fed = sheet
-                .edges
-                .iter()
-                .filter(|edge| edge.to == v && edge.tokens as usize <= i);
-            let fed = fed
-                .map(|edge| table[edge.from * n + i - edge.tokens as usize])
-                .max()
-                .unwrap_or(0);
-            ready[v * n + i] = rows[v].map_or(0, |row| times[row * n + i]).max(fed);
-            let task = &sheet.tasks[v];
-            let wait = |k: usize| task.server.worst((i - k + 1) as u64 * task.time);
-            let bound = (0..=i)
-                .map(|k| ready[v * n + k] + wait(k))
-                .max()
-                .unwrap_or(0);
-            if bound > CEILING {
-                table.fill(0);
-                return Err(Fault::table(12));
-            }
-            table[v * n + i] = bound;
+    for (i, v) in (0..n).flat_map(|i| order.iter().map(move |v| (i, *v))) {
+        let bound = filling.bound(table, v, i);
+        if bound > CEILING {
+            table.fill(0);
+            return Err(Fault::table(12));
         }
+        table[v * n + i] = bound;
     }
     Ok(())
 }

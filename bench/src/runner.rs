@@ -30,6 +30,37 @@ struct TaskState {
     out: Vec<usize>,
 }
 
+impl TaskState {
+    fn is_ready(&self, held: &[u64]) -> bool {
+        matches!(self.stage, Stage::Idle)
+            && self.inlet != Some(0)
+            && self.into.iter().all(|edge| held[*edge] > 0)
+    }
+
+    /// Takes what a firing takes, and answers its need.
+    fn start(&mut self, held: &mut [u64]) -> u64 {
+        self.into.iter().for_each(|edge| held[*edge] -= 1);
+        self.inlet = self.inlet.map(|waiting| waiting - 1);
+        self.need
+    }
+
+    /// A granted tick; whether a firing ends by it.
+    fn serve(&mut self, held: &mut [u64]) -> bool {
+        let left = match self.stage {
+            Stage::UnderWay { left } => left,
+            Stage::Idle if self.ready => self.start(held),
+            Stage::Idle => return false,
+        };
+        if left > 1 {
+            self.stage = Stage::UnderWay { left: left - 1 };
+            return false;
+        }
+        self.stage = Stage::Idle;
+        self.out.iter().for_each(|edge| held[*edge] += 1);
+        true
+    }
+}
+
 pub struct Runner {
     pub clock: u64,
     tasks: Vec<TaskState>,
@@ -87,36 +118,20 @@ impl Runner {
         if self.clock == LAST_CLOCK {
             return Err(Fault::runner(16));
         }
-        let held = &mut self.held;
         for task in &mut self.tasks {
-            task.ready = matches!(task.stage, Stage::Idle)
-                && task.inlet != Some(0)
-                && task.into.iter().all(|edge| held[*edge] > 0);
+            task.ready = task.is_ready(&self.held);
         }
         self.clock += 1;
         for (at, (task, claimed)) in self.tasks.iter_mut().zip(claims).enumerate() {
             let granted = task.server.tick(*claimed);
-            let left = match task.stage {
-                Stage::UnderWay { left } if granted => left,
-                Stage::Idle if granted && task.ready => {
-                    task.into.iter().for_each(|edge| held[*edge] -= 1);
-                    task.inlet = task.inlet.map(|waiting| waiting - 1);
-                    task.need
-                }
-                _ => continue,
-            };
-            if left > 1 {
-                task.stage = Stage::UnderWay { left: left - 1 };
-                continue;
+            if granted && task.serve(&mut self.held) {
+                records.push(Record {
+                    task: at,
+                    firing: task.fired,
+                    clock: self.clock,
+                });
+                task.fired += 1;
             }
-            task.stage = Stage::Idle;
-            task.out.iter().for_each(|edge| held[*edge] += 1);
-            records.push(Record {
-                task: at,
-                firing: task.fired,
-                clock: self.clock,
-            });
-            task.fired += 1;
         }
         Ok(())
     }

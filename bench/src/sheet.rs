@@ -1,6 +1,6 @@
 use crate::fault::Fault;
 use crate::servers::{Fixed, Kind, Server, CEILING};
-use crate::text::Line;
+use crate::text::{Fields, Line};
 
 const TASK_HEADING: &[u8] = b"task time kind period slice phase inner inslice inphase inlet";
 const MOST_BYTES: usize = 8192;
@@ -57,6 +57,33 @@ fn read_goal(line: Line) -> Result<u64, Fault> {
     line.fields::<1>()?.number(1, 1..=999_999_999)
 }
 
+/// The server that fields 3 to 9 tell, or none where their settings are of no server.
+fn read_server(fields: &Fields<10>) -> Result<Option<Server>, Fault> {
+    let kind = match fields.at(3) {
+        b"own" => Kind::own,
+        b"fixed" => Kind::fixed,
+        b"float" => Kind::float,
+        _ => return fields.refuse(6, 3),
+    };
+    let period = fields.number(4, 1..=65_535)?;
+    let slice = fields.number(5, 1..=65_535)?;
+    let phase = fields.number(6, 0..=65_534)?;
+    let inner_period = fields.number(7, 0..=65_535)?;
+    let inner_slice = fields.number(8, 0..=65_535)?;
+    let inner_phase = fields.number(9, 0..=65_534)?;
+    let kind = kind(period, slice, phase);
+    Ok(match (inner_period, inner_slice, inner_phase) {
+        (0, 0, 0) => kind.map(|kind| Server { kind, inner: None }),
+        (period, slice, phase) => {
+            kind.zip(Fixed::new(period, slice, phase))
+                .map(|(kind, inner)| Server {
+                    kind,
+                    inner: Some(inner),
+                })
+        }
+    })
+}
+
 fn read_task(line: Line, tasks: &[Task]) -> Result<Task, Fault> {
     if tasks.len() == MOST_TASKS {
         return line.refuse(9);
@@ -64,39 +91,17 @@ fn read_task(line: Line, tasks: &[Task]) -> Result<Task, Fault> {
     let fields = line.fields::<10>()?;
     let name = fields.name(1)?;
     let time = fields.number(2, 1..=65_535)?;
-    let kind = match fields.at(3) {
-        b"own" => Kind::own,
-        b"fixed" => Kind::fixed,
-        b"float" => Kind::float,
-        _ => return fields.refuse(6, 3),
-    };
-    let (period, slice) = (fields.number(4, 1..=65_535)?, fields.number(5, 1..=65_535)?);
-    let phase = fields.number(6, 0..=65_534)?;
-    let inner = (
-        fields.number(7, 0..=65_535)?,
-        fields.number(8, 0..=65_535)?,
-        fields.number(9, 0..=65_534)?,
-    );
+    let server = read_server(&fields)?;
     let inlet = fields.number(10, 0..=1)? == 1;
     let name = String::from_utf8_lossy(name).into_owned();
     if tasks.iter().any(|task| task.name == name) {
         return fields.refuse(7, 1);
     }
-    let unfit = Fault {
-        layer: "server",
-        number: 10,
-        line: line.number,
-        field: 0,
-    };
-    let kind = kind(period, slice, phase).ok_or(unfit)?;
-    let inner = match inner {
-        (0, 0, 0) => None,
-        (period, slice, phase) => Some(Fixed::new(period, slice, phase).ok_or(unfit)?),
-    };
+    let server = server.ok_or(Fault::server(10, line.number))?;
     Ok(Task {
         name,
         time,
-        server: Server { kind, inner },
+        server,
         inlet,
     })
 }
