@@ -1,38 +1,14 @@
 -- A tick of a board.
-use Rattle.std.proofs.Common.{◌≡◌, ℕ, ◌+◌, ◌-◌, ◌<◌, ◌≤◌, Bool, true, false, Decides, List, length, vec_len, vec_items, slice_index, sym, refl, ◌∙◌, ap, ap₂, arith, true≢false}
-use Rattle.std.proofs.lemmas.Bool.Decides.{same_from_decides, Decides-like}
+use Rattle.std.proofs.Common.{◌≡◌, ℕ, ◌+◌, ◌-◌, ◌<◌, Bool, List, length, vec_len, vec_items, slice_index, refl, ◌∙◌, ap, ap₂, arith}
 use Rattle.graph.specs.declared.graph.Graph.{Graph}
 use Rattle.graph.specs.declared.parts.Edge.{Edge}
 use Rattle.graph.specs.Edges.{edge_at}
 use Rattle.flow.specs.Nets.{net_of}
 use Rattle.runs.specs.States.{one, supplied, starts, ends, ticked}
-use Rattle.runs.proofs.Moves.{supplied_decides}
 use Rattle.runner.specs.declared.board.Board.{Board}
 use Rattle.runner.specs.declared.task.TaskRecord.{TaskRecord}
 use Rattle.runner.specs.Boards.{shown_of, shown, Alike}
-use Rattle.runner.specs.Serves.{AllServed, Carried, Holding, marked, starts_with, ends_with, left_with}
-
-module _ (g : Graph) (b : Board) (v : ℕ) where
-  pub by_edges : (r : Bool) → Decides r ((e : ℕ) → e < vec_len g.edges → (net_of g).to e ≡ v → 1 ≤ (shown b).held e) → ((net_of g).inlet v ≡ true → 1 ≤ (shown b).waiting v) → r ≡ supplied (net_of g) (shown b) v
-  by_edges r d w =
-      same_from_decides r (supplied (net_of g) (shown b) v)
-      (λ q. record { inlet = w; edges = d.0 q }, λ u. d.1 (u.edges))
-      (supplied_decides (net_of g) (shown b) v)
-
-  pub held_in :
-      (es : List Edge) (r : Bool) → es ≡ vec_items g.edges → length es ≡ vec_len g.edges → Decides r (Holding es b.held v) →
-      Decides r ((e : ℕ) → e < vec_len g.edges → (net_of g).to e ≡ v → 1 ≤ (shown b).held e)
-  held_in es r its many d =
-      Decides-like r
-      (λ h e k t. h e (omega (arith, many, k)) (ap (λ (fs : List Edge). (edge_at fs e).to) its ∙ t))
-      (λ h e k t. h e (omega (arith, many, k)) (ap (λ (fs : List Edge). (edge_at fs e).to) (sym its) ∙ t))
-      d
-
-  pub by_inlet : (net_of g).inlet v ≡ true → (shown b).waiting v ≡ 0 → false ≡ supplied (net_of g) (shown b) v
-  by_inlet i w =
-      same_from_decides false (supplied (net_of g) (shown b) v)
-      (λ q. absurd (true≢false (sym q)), λ u. absurd (omega (arith, u.inlet i, w)))
-      (supplied_decides (net_of g) (shown b) v)
+use Rattle.runner.specs.Serves.{AllServed, Carried, marked, starts_with, ends_with, left_with}
 
 module _ (g : Graph) (b : Board) (grants ready starting ending : List Bool) (ts : List TaskRecord)
     (judged : (v : ℕ) → v < vec_len g.tasks → marked ready v ≡ supplied (net_of g) (shown b) v)

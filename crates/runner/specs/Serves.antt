@@ -47,7 +47,3 @@ carried_at es starts ends e before = before - one (marked starts (edge_at es e).
 pub record Carried (es : List Edge) (starts ends : List Bool) (before after : List ℕ) : Type 0 where
   pub carried : (e : ℕ) → e < length es → slice_index after e ≡ carried_at es starts ends e (slice_index before e)
   pub rest : (e : ℕ) → length es ≤ e → slice_index after e ≡ slice_index before e
-
--- Each edge into v holds a token.
-abbrev pub Holding : List Edge → List ℕ → ℕ → Type 0
-Holding es held v = (e : ℕ) → e < length es → (edge_at es e).to ≡ v → 1 ≤ slice_index held e

@@ -1,7 +1,7 @@
-ghost use Rattle.std.specs.Prelude.{ℕ, ◌+◌, ◌<◌, ◌≤◌, slice_index, length};
+ghost use Rattle.std.specs.Prelude.{◌≡◌, ℕ, ◌+◌, ◌<◌, ◌≤◌, false, slice_index, length};
 ghost use Rattle.graph.specs.Edges.{Ends};
 ghost use Rattle.runner.specs.Tasks.{task_in};
-ghost use Rattle.runner.specs.Serves.{AllServed, Carried};
+ghost use Rattle.runner.specs.Serves.{AllServed, Carried, marked};
 
 use crate::task::{Stage, TaskRecord};
 use graph::graph::Graph;
@@ -44,6 +44,13 @@ fn serve_all(
     (starts, ends)
 }
 
+// Whether a mark is set.
+fn any(marks: &Marks) -> bool
+    ensures { result ≡ false → (v : ℕ) → marked marks.now v ≡ false }
+{
+    marks.contains(&true)
+}
+
 // Takes a token from each edge into a task where a firing starts, and adds one to each edge out of a task where one ends.
 fn carry(held: &mut [u64; MOST_EDGES], edges: &[Edge], starts: &Marks, ends: &Marks)
     requires few { length edges.now ≤ 48 }
@@ -51,6 +58,10 @@ fn carry(held: &mut [u64; MOST_EDGES], edges: &[Edge], starts: &Marks, ends: &Ma
     requires laden { (e : ℕ) → slice_index held.old e ≤ 2000000000 }
     ensures { Carried edges.now starts.now ends.now held.old held.new }
 {
+    // In most ticks no firing starts and none ends.
+    if !any(starts) && !any(ends) {
+        return;
+    }
     for (e, edge) in edges.iter().enumerate() {
         if starts[edge.to] {
             held[e] = held[e].saturating_sub(1);
@@ -62,8 +73,7 @@ fn carry(held: &mut [u64; MOST_EDGES], edges: &[Edge], starts: &Marks, ends: &Ma
 }
 
 impl Board {
-    ghost use Rattle.std.specs.Prelude.{◌≡◌, ◌-◌, Decides, vec_len, slice_index_or, false};
-    ghost use Rattle.runner.specs.Serves.{Holding, marked};
+    ghost use Rattle.std.specs.Prelude.{◌-◌, Decides, vec_len, slice_index_or, true};
     ghost use Rattle.flow.specs.Nets.{net_of};
     ghost use Rattle.runs.specs.States.{new_state, arrived, need_set, supplied, ends, ticked};
     ghost use Rattle.runner.specs.Boards.{shown, Alike, Same};
@@ -125,37 +135,35 @@ impl Board {
         self.clock
     }
 
-    // Whether each edge into task v holds a token.
-    fn all_hold(&self, edges: &[Edge], v: usize) -> bool
-        requires { length edges.now ≤ 48 }
-        ensures { Decides result (Holding edges.now self.now.held v) }
-    {
-        for (e, edge) in edges.iter().enumerate() {
-            if edge.to == v && self.held[e] == 0 {
-                return false;
-            }
-        }
-        true
-    }
-
-    // Whether a firing of task v can start: an arrival waits at its inlet, if it has one, and each edge into it holds a token.
-    fn is_supplied(&self, graph: &Graph, v: usize) -> bool
+    // Whether an arrival waits at the inlet of task v, or it has none.
+    fn is_welcome(&self, graph: &Graph, v: usize) -> bool
         requires { v < vec_len graph.now.tasks }
-        ensures { result ≡ supplied (net_of graph.now) (shown self.now) v }
+        ensures { Decides result ((net_of graph.now).inlet v ≡ true → 1 ≤ (shown self.now).waiting v) }
     {
-        if graph.tasks[v].inlet && self.tasks[v].waiting == 0 {
-            return false;
-        }
-        self.all_hold(&graph.edges, v)
+        !graph.tasks[v].inlet || self.tasks[v].waiting > 0
     }
 
-    // The tasks that are supplied.
+    // So it is of these tasks.
+    fn welcome(&self, graph: &Graph) -> Marks
+        ensures { (v : ℕ) → v < vec_len graph.now.tasks → Decides (slice_index_or result v false) ((net_of graph.now).inlet v ≡ true → 1 ≤ (shown self.now).waiting v) }
+    {
+        let mut welcome = [false; MOST_TASKS];
+        for v in 0..graph.tasks.len() {
+            welcome[v] = self.is_welcome(graph, v);
+        }
+        welcome
+    }
+
+    // The tasks that are supplied: an arrival waits at the inlet, if there is one, and each edge into the task holds a token.
+    // One look at each edge, and not at all edges for each task.
     fn ready(&self, graph: &Graph) -> Marks
         ensures { (v : ℕ) → v < vec_len graph.now.tasks → slice_index_or result v false ≡ supplied (net_of graph.now) (shown self.now) v }
     {
-        let mut ready = [false; MOST_TASKS];
-        for v in 0..graph.tasks.len() {
-            ready[v] = self.is_supplied(graph, v);
+        let mut ready = self.welcome(graph);
+        for (e, edge) in graph.edges.iter().enumerate() {
+            if self.held[e] == 0 {
+                ready[edge.to] = false;
+            }
         }
         ready
     }

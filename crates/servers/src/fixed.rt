@@ -62,7 +62,9 @@ impl Server for Fixed {
 
     fn tick(&mut self, _claimed: bool) -> bool {
         let granted = self.position < self.slice.ticks;
-        self.position = (self.position + 1) % self.slice.period;
+        // No `%`, which would divide at every tick.
+        let next = self.position + 1;
+        self.position = if next < self.slice.period { next } else { 0 };
         granted
     }
 
