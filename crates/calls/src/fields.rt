@@ -11,7 +11,7 @@ use lexer::token::Token;
 use sheet_lines::line::Line;
 
 /// The fields of a call's line.
-#[derive(Clone, Copy, PartialEq, Eq, Debug)]
+#[derive(Clone, Copy)]
 pub(crate) struct CallFields<'a> {
     pub(crate) word: Token<'a>,
     pub(crate) whom: Token<'a>,

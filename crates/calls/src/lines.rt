@@ -17,9 +17,10 @@ use lexer::token::Token;
 use names::name::Name;
 use sheet_lines::line::Line;
 
-/// The highest value of a call.
-pub const MOST: u64 = 999_999_999;
+// The highest value of a call.
+const MOST: u64 = 999_999_999;
 
+// Whether a line is the heading of calls.
 fn is_heading(text: &[u8]) -> bool
     ensures { IsTrue result ↔ (text.now ≡ heading) }
 {

@@ -2,7 +2,7 @@
 use Rattle.std.proofs.Common.{◌-◌, length, arith}
 use Rattle.std.proofs.lemmas.Bool.Decides.{nat_tests}
 use Rattle.ahead.proofs.Cuts.{last_tells}
-use Rattle.ahead.proofs.ahead.is_ended.Goals as goal
+use Rattle.ahead.proofs.reading.is_ended.Goals as goal
 
 pub returns-in-10 : goal.returns-in-10
 returns-in-10 c =

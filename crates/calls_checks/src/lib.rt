@@ -1,0 +1,6 @@
+#![tactic(auto)]
+
+#[cfg(test)]
+mod ahead_tests;
+#[cfg(test)]
+mod call_tests;
