@@ -2,5 +2,7 @@ mod Steps
 mod Tells
 mod Orders
 mod Waitings
-mod Whole
-mod More
+mod Zeros
+mod Counts
+mod MoreArrivals
+mod MoreFirings

@@ -6,18 +6,14 @@ use Rattle.graph.specs.declared.graph.Graph.{Graph}
 use Rattle.flow.specs.Nets.{Net, Arrivals, net_of}
 use Rattle.flow.specs.Finish.{Cost, Feeds}
 use Rattle.finish.proofs.Steps.{cell}
-use Rattle.finish.proofs.Tells.{entry_more}
+use Rattle.finish.proofs.Tells.{entry_more, partly_less}
 use Rattle.finish.specs.Table.{SomeAbove}
 use Rattle.finish.specs.Filling.{entry, FinishTold, WaitsTold, Came, Fed, more, Shaped, Stepped, Good, Advances, Went, done_at}
 
 -- fewer firings
 good_less : (g : Net) (α : Arrivals) (cost : Cost) (n : ℕ) (done done' : ℕ → ℕ) (ready table : List ℕ) → ((u : ℕ) → u < g.tasks → done' u ≤ done u) → Good g α cost n done ready table → Good g α cost n done' ready table
 good_less g α cost n done done' ready table less h = record {
-  partly = record {
-    room = λ u um. omega (arith, less u um, h.partly.room u um);
-    readies = λ u j um jm. h.partly.readies u j um (omega (arith, less u um));
-    bounds = λ u j um jm. h.partly.bounds u j um (omega (arith, less u um));
-  };
+  partly = partly_less g α cost n done done' ready table less h.partly;
   within = λ u j um jm. h.within u j um (omega (arith, less u um));
 }
 

@@ -64,6 +64,14 @@ module _ (g : Net) (α : Arrivals) (cost : Cost) where
           let h = old.1 in
           omega (arith, (rs k h).told, ws (i - k) (omega arith), ready_le g α cost old.2.1 (rs k h).is, old.2.2, tops.upper k (omega (arith, h)) tt)
 
+  -- fewer firings
+  pub partly_less : (n : ℕ) (done done' : ℕ → ℕ) (ready table : List ℕ) → ((u : ℕ) → u < g.tasks → done' u ≤ done u) → Partly g α cost n done ready table → Partly g α cost n done' ready table
+  partly_less n done done' ready table less p = record {
+    room = λ u um. omega (arith, less u um, p.room u um);
+    readies = λ u j um jm. p.readies u j um (omega (arith, less u um));
+    bounds = λ u j um jm. p.bounds u j um (omega (arith, less u um));
+  }
+
 -- two entries at one place are one
 apart : (n u j v i : ℕ) → j < n → i < n → u * n + j ≡ v * n + i → (u ≡ v) × (j ≡ i)
 apart n u j v i a b q = go (cases_lt v u) (cases_lt u v)

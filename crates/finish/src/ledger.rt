@@ -2,16 +2,13 @@ ghost use Rattle.std.specs.Prelude.{◌≡◌, ℕ, ◌≤◌, cond, nat_le, sli
 ghost use Rattle.servers.specs.Figures.{ceiling};
 
 use crate::step::{ABOVE, Waits};
-use crate::table::MOST_FIRINGS;
+use crate::table::{ENTRIES, MOST_FIRINGS};
 use crate::waits::worst_waits;
 use faults::fault::Fault;
 use graph::graph::Graph;
 use graph::parts::MOST_TASKS;
 use racks::rack::Rack;
 use servers::figures::CEILING;
-
-/// A row for each task.
-const ENTRIES: usize = MOST_TASKS * MOST_FIRINGS;
 
 /// The finish bounds of firings as they end, one after another: for each inlet the clocks of its first 256 arrivals, and of each task the bounds of its first 256 firings.
 // In fixed memory, so that no arrival or firing is lost for want of it.

@@ -18,6 +18,9 @@ use racks::rack::Rack;
 /// The most firings of a task that a table holds.
 pub const MOST_FIRINGS: usize = 256;
 
+/// The most entries: a row for each task.
+pub(crate) const ENTRIES: usize = MOST_TASKS * MOST_FIRINGS;
+
 /// Fills the table over what it held; false where a bound is above the ceiling.
 fn fill<R: Rack>(graph: &Graph, rack: &R, n: usize, times: &[u64], table: &mut [u64]) -> bool
     requires short { n ≤ 256 }
@@ -27,8 +30,8 @@ fn fill<R: Rack>(graph: &Graph, rack: &R, n: usize, times: &[u64], table: &mut [
     ensures { Filled (net_of graph.now) (arrivals graph.now n times.now) (by_worst (net_of graph.now) (R.Rack.service rack.now)) n table.new result }
 {
     // In fixed memory, 32 KB each, since a table may not fail for want of it.
-    let mut worst = [0; MOST_TASKS * MOST_FIRINGS];
-    let mut ready = [0; MOST_TASKS * MOST_FIRINGS];
+    let mut worst = [0; ENTRIES];
+    let mut ready = [0; ENTRIES];
     table.fill(0);
     worst_waits(graph, rack, n, &mut worst);
     let waits = Waits {

@@ -1,1 +1,5 @@
+pub mod Planned
 pub mod Told
+pub mod Answered
+pub mod Printed
+pub mod One

@@ -2,3 +2,4 @@
 
 mod lines;
 pub mod report;
+mod tables;

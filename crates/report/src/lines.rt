@@ -1,57 +1,61 @@
-ghost use Rattle.std.specs.Prelude.{◌++◌};
-ghost use Rattle.std.specs.List.{flat_map};
-ghost use Rattle.faults.specs.Faults.{fault_line};
-ghost use Rattle.lexer.specs.Text.{end};
+ghost use Rattle.std.specs.Prelude.{◌<◌, vec_len};
 ghost use Rattle.texts.specs.Puts.{Puts};
-ghost use Rattle.sheets.specs.Reads.{entries, page};
-ghost use Rattle.report.specs.Reports.{figures_line, figures_table};
-ghost use Rattle.report.specs.Figured.{Ready};
+ghost use Rattle.sheets.specs.Reads.{page, Planned};
+ghost use Rattle.report.specs.Texts.{goal_line, task_line, ring_line};
 
-use faults::fault::Fault;
+use figures::figures::Figures;
 use graph::figures::figures_at;
 use sheets::sheet::Sheet;
 use std::alloc::AllocError;
 use texts::line::{Cell, put_line};
-use texts::put;
 
-/// The line of a fault, as its `Display` has it.
-// By cells: a `writeln!` may fail for any reason, and says nothing of what it then left.
-pub(crate) fn put_fault(out: &mut Vec<u8>, fault: Fault) -> Result<(), AllocError>
-    ensures { Puts out.old (fault_line fault ++ end) result out.new }
+/// The line of the goal.
+pub(crate) fn put_goal(out: &mut Vec<u8>, goal: u64, figures: &Figures) -> Result<(), AllocError>
+    ensures { Puts out.old (goal_line goal figures.now) result out.new }
 {
     let cells = [
-        Cell::Word(b"refused"),
-        Cell::Word(fault.layer.word().as_bytes()),
-        Cell::Number(u64::from(fault.reason.number())),
-        Cell::Number(u64::from(fault.line)),
-        Cell::Number(u64::from(fault.field)),
+        Cell::Number(goal),
+        Cell::Number(figures.ratio.cycle),
+        Cell::Number(figures.ratio.parts),
+        Cell::Signed(figures.margin),
+        Cell::Word(figures.verdict.word().as_bytes()),
     ];
     put_line(out, &cells)
 }
 
-// The lines of all tasks. No `put_each`: it asks for a closure that takes any item, and the figures of these are told at their own places.
-fn put_tasks(out: &mut Vec<u8>, sheet: &Sheet) -> Result<(), AllocError>
-    requires { Ready sheet.now }
-    ensures { Puts out.old (flat_map figures_line (entries sheet.now)) result out.new }
+/// The line of the task at a place.
+pub(crate) fn put_task(
+    out: &mut Vec<u8>,
+    sheet: &Sheet,
+    figures: &Figures,
+    place: usize,
+) -> Result<(), AllocError>
+    requires planned { Planned sheet.now }
+    requires there { place < vec_len sheet.now.tasks }
+    ensures { Puts out.old (task_line (page sheet.now) figures.now place) result out.new }
 {
-    for (place, task) in sheet.tasks.iter().enumerate() {
-        let figures = figures_at(&sheet.rack, place, task.time).unwrap();
-        let cells = [
-            Cell::Word(task.name.as_bytes()),
-            Cell::Number(figures.lead),
-            Cell::Number(figures.pace),
-            Cell::Number(figures.alone),
-        ];
-        put_line(out, &cells)?;
-    }
-    Ok(())
+    let task = &sheet.tasks[place];
+    let told = figures_at(&sheet.rack, place, task.time).unwrap();
+    let cells = [
+        Cell::Word(task.name.as_bytes()),
+        Cell::Number(told.lead),
+        Cell::Number(told.pace),
+        Cell::Number(told.alone),
+        Cell::Number(figures.starts[place]),
+        Cell::Number(figures.loads[place]),
+    ];
+    put_line(out, &cells)
 }
 
-/// The table of a sheet.
-pub(crate) fn put_table(out: &mut Vec<u8>, sheet: &Sheet) -> Result<(), AllocError>
-    requires { Ready sheet.now }
-    ensures { Puts out.old (figures_table (page sheet.now)) result out.new }
+/// The line of a task of the critical ring.
+pub(crate) fn put_ring_task(
+    out: &mut Vec<u8>,
+    sheet: &Sheet,
+    place: usize,
+) -> Result<(), AllocError>
+    requires { place < vec_len sheet.now.tasks }
+    ensures { Puts out.old (ring_line (page sheet.now) place) result out.new }
 {
-    put(out, b"task lead pace alone\n")?;
-    put_tasks(out, sheet)
+    let task = &sheet.tasks[place];
+    put_line(out, &[Cell::Word(task.name.as_bytes())])
 }

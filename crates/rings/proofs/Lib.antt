@@ -1,4 +1,4 @@
 mod Filled
-mod Asked
+pub mod Asked
 mod Growing
-mod Walked
+pub mod Walked

@@ -1,4 +1,4 @@
--- Lead and pace of each task together, and the arcs by which the edges are searched.
+-- What the hops into each task weigh, and the arcs by which the edges are searched.
 use Rattle.std.specs.Prelude.{◌≡◌, ℕ, ◌*◌, ◌<◌, ◌≤◌, List, slice_index, vec_len, pos, ◌-ℤ◌, Result, MatchResult}
 use Rattle.faults.specs.declared.fault.Fault.{Fault}
 use Rattle.servers.specs.Service.{Service}
@@ -9,6 +9,7 @@ use Rattle.graph.specs.Racked.{Racked, RefusesRack}
 use Rattle.flow.specs.Nets.{net_of}
 use Rattle.flow.specs.Rings.{pace_of, lead_and_pace_of}
 use Rattle.walks.specs.declared.arcs.Arc.{Arc}
+use Rattle.rings.specs.declared.weights.Weights.{Weights}
 
 -- No span is above the ceiling.
 abbrev pub Told : Graph → List ℕ → Type 0
@@ -18,10 +19,6 @@ Told g spans = (v : ℕ) → v < vec_len g.tasks → slice_index spans v ≤ cei
 abbrev pub Spans : Graph → (ℕ → Service) → List ℕ → Type 0
 Spans g service spans = (v : ℕ) → v < vec_len g.tasks → slice_index spans v ≡ lead_and_pace_of (net_of g) service v
 
--- They are read of a rack that the graph accepts, and else its refusal is told.
-abbrev pub ReadsSpans : Graph → ℕ → (ℕ → Service) → Result (List ℕ) Fault → Type 0
-ReadsSpans g places service r = MatchResult r (λ spans. Racked g places service × Spans g service spans × Told g spans) (RefusesRack g places service)
-
 -- Paces are from 1 to the ceiling.
 abbrev pub Paced : Graph → List ℕ → Type 0
 Paced g paces = (v : ℕ) → v < vec_len g.tasks → (1 ≤ slice_index paces v) × (slice_index paces v ≤ ceiling)
@@ -30,9 +27,10 @@ Paced g paces = (v : ℕ) → v < vec_len g.tasks → (1 ≤ slice_index paces v
 abbrev pub Paces : Graph → (ℕ → Service) → List ℕ → Type 0
 Paces g service paces = (v : ℕ) → v < vec_len g.tasks → slice_index paces v ≡ pace_of (net_of g) service v
 
--- They are read of a rack that the graph accepts, and else its refusal is told.
-abbrev pub ReadsPaces : Graph → ℕ → (ℕ → Service) → Result (List ℕ) Fault → Type 0
-ReadsPaces g places service r = MatchResult r (λ paces. Racked g places service × Paces g service paces × Paced g paces) (RefusesRack g places service)
+-- Both are read of a rack that the graph accepts, and else its refusal is told.
+abbrev pub ReadsWeights : Graph → ℕ → (ℕ → Service) → Result Weights Fault → Type 0
+ReadsWeights g places service r =
+    MatchResult r (λ w. Racked g places service × Spans g service w.spans × Told g w.spans × Paces g service w.paces × Paced g w.paces) (RefusesRack g places service)
 
 -- An edge as it is searched.
 abbrev pub arc_of : List ℕ → ℕ → ℕ → Edge → Arc

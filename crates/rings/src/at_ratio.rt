@@ -5,7 +5,7 @@ ghost use Rattle.rings.specs.AtRatios.{Finds, AnswersAt};
 ghost use Rattle.flow.specs.Nets.{net_of};
 
 use crate::arcs::{arcs, bases, whole};
-use crate::spans::spans;
+use crate::weights::weights_on;
 use faults::fault::Fault;
 use graph::graph::Graph;
 use graph::parts::MOST_TASKS;
@@ -39,6 +39,6 @@ pub(crate) fn search(graph: &Graph, spans: &[u64; MOST_TASKS], ratio: Ratio) -> 
 pub fn at_ratio<R: Rack>(graph: &Graph, rack: &R, ratio: Ratio) -> Result<AtRatio, Fault>
     ensures { AnswersAt graph.now (R.Rack.places rack.now) (R.Rack.service rack.now) ratio.cycle ratio.parts result }
 {
-    let spans = spans(graph, rack)?;
-    Ok(search(graph, &spans, ratio))
+    let weights = weights_on(graph, rack)?;
+    Ok(search(graph, &weights.spans, ratio))
 }

@@ -8,7 +8,7 @@ ghost use Rattle.rings.specs.Spans.{Told, Spans, Paced, Paces};
 ghost use Rattle.rings.specs.Cycles.{OnEdges, AreFigures, AnswersFigures};
 
 use crate::at_ratio::{AtRatio, search};
-use crate::spans::{paces, spans};
+use crate::weights::weights_on;
 use faults::fault::Fault;
 use graph::graph::Graph;
 use graph::parts::MOST_TASKS;
@@ -104,7 +104,6 @@ fn work_out(graph: &Graph, spans: &[u64; MOST_TASKS], paces: &[u64; MOST_TASKS])
 pub fn ring_figures<R: Rack>(graph: &Graph, rack: &R) -> Result<RingFigures, Fault>
     ensures { AnswersFigures graph.now (R.Rack.places rack.now) (R.Rack.service rack.now) result }
 {
-    let spans = spans(graph, rack)?;
-    let paces = paces(graph, rack)?;
-    Ok(work_out(graph, &spans, &paces))
+    let weights = weights_on(graph, rack)?;
+    Ok(work_out(graph, &weights.spans, &weights.paces))
 }

@@ -3,4 +3,4 @@
 mod arcs;
 pub mod at_ratio;
 pub mod cycle;
-mod spans;
+mod weights;

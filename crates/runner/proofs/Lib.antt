@@ -2,7 +2,6 @@ pub mod Alikes
 pub mod Alone
 pub mod Calls
 pub mod Going
-pub mod Judging
 pub mod Kept
 pub mod Putting
 pub mod Serving

@@ -1,14 +1,31 @@
 -- A tick of a board.
-use Rattle.std.proofs.Common.{◌≡◌, ℕ, ◌+◌, ◌-◌, ◌<◌, Bool, List, length, vec_len, vec_items, slice_index, refl, ◌∙◌, ap, ap₂, arith}
+use Rattle.std.proofs.Common.{◌≡◌, ℕ, ◌+◌, ◌-◌, ◌<◌, Bool, false, Decides, List, length, vec_len, vec_items, slice_index, sym, refl, ◌∙◌, ap, ap₂, arith, true≢false}
+use Rattle.std.proofs.lemmas.Bool.Decides.{same_from_decides}
 use Rattle.graph.specs.declared.graph.Graph.{Graph}
 use Rattle.graph.specs.declared.parts.Edge.{Edge}
 use Rattle.graph.specs.Edges.{edge_at}
 use Rattle.flow.specs.Nets.{net_of}
 use Rattle.runs.specs.States.{one, supplied, starts, ends, ticked}
+use Rattle.runs.proofs.Moves.{supplied_decides}
 use Rattle.runner.specs.declared.board.Board.{Board}
 use Rattle.runner.specs.declared.task.TaskRecord.{TaskRecord}
 use Rattle.runner.specs.Boards.{shown_of, shown, Alike}
-use Rattle.runner.specs.Serves.{AllServed, Carried, marked, starts_with, ends_with, left_with}
+use Rattle.runner.specs.Serves.{AllServed, Carried, Awaited, Holding, marked, starts_with, ends_with, left_with}
+
+module _ (g : Graph) (b : Board) (v : ℕ) where
+  -- Where each edge into a task holds a token, the arrival decides whether it is supplied.
+  pub by_arrival : (r : Bool) → Holding (vec_items g.edges) b.held v → Decides r (Awaited (net_of g) (shown b) v) → r ≡ supplied (net_of g) (shown b) v
+  by_arrival r holds comes =
+      same_from_decides r (supplied (net_of g) (shown b) v)
+      (λ q. record { inlet = comes.0 q; edges = λ e h t. holds e (omega (arith, h, g.edges.ok.0)) t }, λ u. comes.1 (u.inlet))
+      (supplied_decides (net_of g) (shown b) v)
+
+  -- Where one holds none, the task is not supplied.
+  pub by_edges : (r : Bool) → Decides r (Holding (vec_items g.edges) b.held v) → r ≡ false → r ≡ supplied (net_of g) (shown b) v
+  by_edges r holds lacks =
+      same_from_decides r (supplied (net_of g) (shown b) v)
+      (λ q. absurd (true≢false (sym q ∙ lacks)), λ u. holds.1 (λ e h t. u.edges e (omega (arith, h, g.edges.ok.0)) t))
+      (supplied_decides (net_of g) (shown b) v)
 
 module _ (g : Graph) (b : Board) (grants ready starting ending : List Bool) (ts : List TaskRecord)
     (judged : (v : ℕ) → v < vec_len g.tasks → marked ready v ≡ supplied (net_of g) (shown b) v)

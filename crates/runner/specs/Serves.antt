@@ -1,8 +1,9 @@
 -- One tick of a task.
-use Rattle.std.specs.Prelude.{◌≡◌, ℕ, ◌+◌, ◌-◌, ◌<◌, ◌≤◌, Bool, false, cond, ◌==◌, List, length, slice_index, slice_index_or}
+use Rattle.std.specs.Prelude.{◌≡◌, ℕ, ◌+◌, ◌-◌, ◌<◌, ◌≤◌, Bool, true, false, cond, Decides, ◌==◌, List, length, slice_index, slice_index_or}
 use Rattle.graph.specs.declared.parts.Edge.{Edge}
 use Rattle.graph.specs.Edges.{edge_at}
-use Rattle.runs.specs.States.{one}
+use Rattle.flow.specs.Nets.{Net}
+use Rattle.runs.specs.States.{State, one}
 use Rattle.runner.specs.declared.task.Stage.{Stage}
 use Rattle.runner.specs.declared.task.Stage.TheVariants.{Idle, UnderWay}
 use Rattle.runner.specs.declared.task.TaskRecord.{TaskRecord}
@@ -47,3 +48,15 @@ carried_at es starts ends e before = before - one (marked starts (edge_at es e).
 pub record Carried (es : List Edge) (starts ends : List Bool) (before after : List ℕ) : Type 0 where
   pub carried : (e : ℕ) → e < length es → slice_index after e ≡ carried_at es starts ends e (slice_index before e)
   pub rest : (e : ℕ) → length es ≤ e → slice_index after e ≡ slice_index before e
+
+-- Each edge into v holds a token.
+abbrev pub Holding : List Edge → List ℕ → ℕ → Type 0
+Holding es held v = (e : ℕ) → e < length es → (edge_at es e).to ≡ v → 1 ≤ slice_index held e
+
+-- The marks tell which tasks have a token on each edge in.
+abbrev pub Fed : List Edge → List ℕ → List Bool → Type 0
+Fed es held fed = (v : ℕ) → v < 16 → Decides (marked fed v) (Holding es held v)
+
+-- An arrival waits at the inlet of v, if it has one.
+abbrev pub Awaited : Net → State → ℕ → Type 0
+Awaited n s v = n.inlet v ≡ true → 1 ≤ s.waiting v

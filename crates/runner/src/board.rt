@@ -1,7 +1,7 @@
-ghost use Rattle.std.specs.Prelude.{◌≡◌, ℕ, ◌+◌, ◌<◌, ◌≤◌, false, slice_index, length};
+ghost use Rattle.std.specs.Prelude.{ℕ, ◌≡◌, ◌+◌, ◌<◌, ◌≤◌, false, IsTrue, slice_index, length};
 ghost use Rattle.graph.specs.Edges.{Ends};
 ghost use Rattle.runner.specs.Tasks.{task_in};
-ghost use Rattle.runner.specs.Serves.{AllServed, Carried, marked};
+ghost use Rattle.runner.specs.Serves.{AllServed, Carried, Fed, marked};
 
 use crate::task::{Stage, TaskRecord};
 use graph::graph::Graph;
@@ -10,13 +10,15 @@ use graph::parts::{Edge, MOST_EDGES, MOST_TASKS};
 /// A mark at each task, or none.
 pub(crate) type Marks = [bool; MOST_TASKS];
 
-/// The clock, a record for each task, and the tokens on each edge, in fixed memory.
+/// The clock, a record for each task, the tokens on each edge, and a mark at each task whose edges all hold one, in fixed memory.
 // Each tick ends one firing of a task at most, and adds one token to an edge: so no count passes its type.
+// The marks are kept, since most ticks move no token.
 #[derive(Drop)]
 pub(crate) struct Board {
     clock: u64,
     tasks: [TaskRecord; MOST_TASKS],
     held: [u64; MOST_EDGES],
+    fed: Marks,
     ghost early: { (v : ℕ) → (task_in tasks v).fired ≤ clock },
     ghost some: { (v : ℕ) → v < 16 → 1 ≤ (task_in tasks v).need },
     ghost laden: { (e : ℕ) → slice_index held e ≤ 255 + clock },
@@ -44,11 +46,11 @@ fn serve_all(
     (starts, ends)
 }
 
-// Whether a mark is set.
-fn any(marks: &Marks) -> bool
-    ensures { result ≡ false → (v : ℕ) → marked marks.now v ≡ false }
+// Whether no mark is set.
+fn is_blank(marks: &Marks) -> bool
+    ensures { IsTrue result → (v : ℕ) → marked marks.now v ≡ false }
 {
-    marks.contains(&true)
+    !marks.contains(&true)
 }
 
 // Takes a token from each edge into a task where a firing starts, and adds one to each edge out of a task where one ends.
@@ -58,10 +60,6 @@ fn carry(held: &mut [u64; MOST_EDGES], edges: &[Edge], starts: &Marks, ends: &Ma
     requires laden { (e : ℕ) → slice_index held.old e ≤ 2000000000 }
     ensures { Carried edges.now starts.now ends.now held.old held.new }
 {
-    // In most ticks no firing starts and none ends.
-    if !any(starts) && !any(ends) {
-        return;
-    }
     for (e, edge) in edges.iter().enumerate() {
         if starts[edge.to] {
             held[e] = held[e].saturating_sub(1);
@@ -72,15 +70,55 @@ fn carry(held: &mut [u64; MOST_EDGES], edges: &[Edge], starts: &Marks, ends: &Ma
     }
 }
 
+// The tasks into which each edge holds a token.
+fn fed_by(held: &[u64; MOST_EDGES], edges: &[Edge]) -> Marks
+    requires few { length edges.now ≤ 48 }
+    requires within { Ends edges.now 16 }
+    ensures { Fed edges.now held.now result }
+{
+    let mut marks = [true; MOST_TASKS];
+    for (e, edge) in edges.iter().enumerate() {
+        if held[e] == 0 {
+            marks[edge.to] = false;
+        }
+    }
+    marks
+}
+
+// Moves the tokens of the firings that start and end, and marks anew the tasks that are fed; most often none moves.
+fn move_tokens(
+    held: &mut [u64; MOST_EDGES],
+    fed: &mut Marks,
+    edges: &[Edge],
+    starts: &Marks,
+    ends: &Marks,
+)
+    requires few { length edges.now ≤ 48 }
+    requires within { Ends edges.now 16 }
+    requires laden { (e : ℕ) → slice_index held.old e ≤ 2000000000 }
+    requires fed { Fed edges.now held.old fed.old }
+    ensures carried { Carried edges.now starts.now ends.now held.old held.new }
+    ensures fed { Fed edges.now held.new fed.new }
+{
+    if is_blank(starts) && is_blank(ends) {
+        return;
+    }
+    carry(held, edges, starts, ends);
+    *fed = fed_by(held, edges);
+}
+
 impl Board {
-    ghost use Rattle.std.specs.Prelude.{◌-◌, Decides, vec_len, slice_index_or, true};
+    ghost use Rattle.std.specs.Prelude.{◌≡◌, ◌-◌, Decides, vec_len};
+    ghost use Rattle.runner.specs.Marks.{Marked, KeepsMarks};
+    ghost use Rattle.runner.specs.Serves.{Awaited, marked};
     ghost use Rattle.flow.specs.Nets.{net_of};
     ghost use Rattle.runs.specs.States.{new_state, arrived, need_set, supplied, ends, ticked};
     ghost use Rattle.runner.specs.Boards.{shown, Alike, Same};
 
     /// A new runner's: clock 0, the starting tokens, no firing under way, and each need the task's time.
     pub(crate) fn new(graph: &Graph) -> Board
-        ensures { Alike (net_of graph.now) (shown result) (new_state (net_of graph.now)) }
+        ensures stands { Alike (net_of graph.now) (shown result) (new_state (net_of graph.now)) }
+        ensures marked { Marked graph.now result }
     {
         let mut tasks = [TaskRecord {
             stage: Stage::Idle,
@@ -95,10 +133,12 @@ impl Board {
         for (e, edge) in graph.edges.iter().enumerate() {
             held[e] = edge.tokens;
         }
+        let fed = fed_by(&held, &graph.edges);
         Board {
             clock: 0,
             tasks,
             held,
+            fed,
         }
     }
 
@@ -114,7 +154,8 @@ impl Board {
     pub(crate) fn arrive(&mut self, v: usize)
         requires there { v < 16 }
         requires room { (shown self.old).waiting v < 65535 }
-        ensures { Same (shown self.new) (arrived (shown self.old) v) }
+        ensures stands { Same (shown self.new) (arrived (shown self.old) v) }
+        ensures marks { KeepsMarks self.old self.new }
     {
         self.tasks[v].waiting += 1;
     }
@@ -123,7 +164,8 @@ impl Board {
     pub(crate) fn need(&mut self, v: usize, ticks: u64)
         requires there { v < 16 }
         requires some { 1 ≤ ticks }
-        ensures { Same (shown self.new) (need_set (shown self.old) v ticks) }
+        ensures stands { Same (shown self.new) (need_set (shown self.old) v ticks) }
+        ensures marks { KeepsMarks self.old self.new }
     {
         self.tasks[v].need = ticks;
     }
@@ -135,48 +177,47 @@ impl Board {
         self.clock
     }
 
-    // Whether an arrival waits at the inlet of task v, or it has none.
-    fn is_welcome(&self, graph: &Graph, v: usize) -> bool
+    // Whether an arrival waits at the inlet of task v, if it has one.
+    fn is_awaited(&self, graph: &Graph, v: usize) -> bool
         requires { v < vec_len graph.now.tasks }
-        ensures { Decides result ((net_of graph.now).inlet v ≡ true → 1 ≤ (shown self.now).waiting v) }
+        ensures { Decides result (Awaited (net_of graph.now) (shown self.now) v) }
     {
         !graph.tasks[v].inlet || self.tasks[v].waiting > 0
     }
 
-    // So it is of these tasks.
-    fn welcome(&self, graph: &Graph) -> Marks
-        ensures { (v : ℕ) → v < vec_len graph.now.tasks → Decides (slice_index_or result v false) ((net_of graph.now).inlet v ≡ true → 1 ≤ (shown self.now).waiting v) }
+    // Whether a firing of task v can start: an arrival waits at its inlet, if it has one, and each edge into it holds a token.
+    fn is_supplied(&self, graph: &Graph, v: usize) -> bool
+        requires there { v < vec_len graph.now.tasks }
+        requires marked { Marked graph.now self.now }
+        ensures { result ≡ supplied (net_of graph.now) (shown self.now) v }
     {
-        let mut welcome = [false; MOST_TASKS];
-        for v in 0..graph.tasks.len() {
-            welcome[v] = self.is_welcome(graph, v);
-        }
-        welcome
+        self.fed[v] && self.is_awaited(graph, v)
     }
 
-    // The tasks that are supplied: an arrival waits at the inlet, if there is one, and each edge into the task holds a token.
-    // One look at each edge, and not at all edges for each task.
+    // The tasks that are supplied.
     fn ready(&self, graph: &Graph) -> Marks
-        ensures { (v : ℕ) → v < vec_len graph.now.tasks → slice_index_or result v false ≡ supplied (net_of graph.now) (shown self.now) v }
+        requires { Marked graph.now self.now }
+        ensures { (v : ℕ) → v < vec_len graph.now.tasks → marked result v ≡ supplied (net_of graph.now) (shown self.now) v }
     {
-        let mut ready = self.welcome(graph);
-        for (e, edge) in graph.edges.iter().enumerate() {
-            if self.held[e] == 0 {
-                ready[edge.to] = false;
-            }
+        let mut ready = [false; MOST_TASKS];
+        for v in 0..graph.tasks.len() {
+            ready[v] = self.is_supplied(graph, v);
         }
         ready
     }
 
     /// One tick with these grants. The answer: at which tasks a firing ends. Which tasks are ready is judged before anything moves.
     pub(crate) fn tick(&mut self, graph: &Graph, grants: &Marks) -> Marks
-        requires { self.old.clock < 1000000000 }
+        requires early { self.old.clock < 1000000000 }
+        requires marked { Marked graph.now self.old }
+        ensures marked { Marked graph.now self.new }
         ensures moves { Alike (net_of graph.now) (shown self.new) (ticked (net_of graph.now) (marked grants.now) (shown self.old)) }
         ensures ending { (v : ℕ) → v < vec_len graph.now.tasks → marked result v ≡ ends (net_of graph.now) (shown self.old) (marked grants.now) v }
     {
         let ready = self.ready(graph);
         let (starts, ends) = serve_all(&mut self.tasks, graph.tasks.len(), &ready, grants);
-        carry(&mut self.held, &graph.edges, &starts, &ends);
+        let edges = &graph.edges;
+        move_tokens(&mut self.held, &mut self.fed, edges, &starts, &ends);
         self.clock += 1;
         ends
     }

@@ -1,6 +1,7 @@
 ghost use Rattle.std.specs.Prelude.{◌≡◌, ◌&&◌, nat_le};
 ghost use Rattle.faults.specs.Faults.{refusal};
 ghost use Rattle.faults.specs.declared.layer.Layer.TheVariants as layer;
+ghost use Rattle.runner.specs.Marks.{Marked};
 
 use crate::board::Board;
 use crate::record::Record;
@@ -26,6 +27,7 @@ pub struct Runner<R> {
     graph: Graph,
     rack: R,
     board: Board,
+    ghost marked: { Marked graph board },
 }
 
 fn refuses(reason: Reason) -> Fault

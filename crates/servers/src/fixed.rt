@@ -62,7 +62,7 @@ impl Server for Fixed {
 
     fn tick(&mut self, _claimed: bool) -> bool {
         let granted = self.position < self.slice.ticks;
-        // No `%`, which would divide at every tick.
+        // By a comparison: a remainder would be most of what a tick costs.
         let next = self.position + 1;
         self.position = if next < self.slice.period { next } else { 0 };
         granted

@@ -2,6 +2,7 @@
 
 ghost use Rattle.std.specs.Prelude.{ℕ, List, decimal};
 ghost use Rattle.std.specs.List.{flat_map};
+ghost use Rattle.std.specs.Fmt.{signed_decimal};
 ghost use Rattle.std.specs.Fn.{FnOnceReturnsAtMut};
 ghost use Rattle.texts.specs.Puts.{Puts, PutsAs, Undone};
 
@@ -25,6 +26,13 @@ pub fn put_number(out: &mut Vec<u8>, n: u64) -> Result<(), AllocError>
     ensures { Puts out.old (decimal n) result out.new }
 {
     put(out, Buffer::new().format(n).as_bytes())
+}
+
+/// Appends z in decimal, behind a minus sign where it is below 0.
+pub fn put_signed(out: &mut Vec<u8>, z: i64) -> Result<(), AllocError>
+    ensures { Puts out.old (signed_decimal z) result out.new }
+{
+    put(out, Buffer::new().format(z).as_bytes())
 }
 
 /// Appends the text of each item, in order, where `put_item` appends that of one.

@@ -3,7 +3,7 @@ ghost use Rattle.lexer.specs.Text.{line_of};
 ghost use Rattle.texts.specs.Puts.{Puts};
 ghost use Rattle.texts.specs.Cells.{cell_text};
 
-use crate::{put, put_each, put_number};
+use crate::{put, put_each, put_number, put_signed};
 use std::alloc::AllocError;
 
 /// What stands in one field of a line.
@@ -11,6 +11,7 @@ use std::alloc::AllocError;
 pub enum Cell<'a> {
     Word(&'a [u8]),
     Number(u64),
+    Signed(i64),
 }
 
 fn put_cell(out: &mut Vec<u8>, cell: &Cell<'_>) -> Result<(), AllocError>
@@ -19,6 +20,7 @@ fn put_cell(out: &mut Vec<u8>, cell: &Cell<'_>) -> Result<(), AllocError>
     match cell {
         Cell::Word(word) => put(out, word),
         Cell::Number(number) => put_number(out, *number),
+        Cell::Signed(number) => put_signed(out, *number),
     }
 }
 

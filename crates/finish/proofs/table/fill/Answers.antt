@@ -1,6 +1,6 @@
 -- The memory begins with zeros, and so does the table.
 use Rattle.std.proofs.Common.{◌*◌, ◌≤◌, vec_len, mul-le-mul, arith, rules}
-use Rattle.finish.proofs.Whole.{kept_zeros, zeros}
+use Rattle.finish.proofs.Zeros.{kept_zeros, zeros}
 use Rattle.finish.proofs.table.fill.Goals as goal
 
 pub worst_waits-requires-clause-kept : goal.worst_waits-requires-clause-kept

@@ -1,5 +1,5 @@
--- The figures by the spans and paces that were read.
+-- The figures by the weights that were read.
 use Rattle.rings.proofs.cycle.ring_figures.Goals as goal
 
 pub returns : goal.returns
-returns g c = (c.in_ok-spans.ensures.0, c.work_out.ensures (g.R.Rack.service c.args.rack.now) c.in_ok-spans.ensures.1 c.in_ok-paces.ensures.1)
+returns g c = (c.in_ok-weights.ensures.0, c.work_out.ensures (g.R.Rack.service c.args.rack.now) c.in_ok-weights.ensures.1 c.in_ok-weights.ensures.3)

@@ -1,6 +1,6 @@
 -- One arrival more is kept, or 256 are already.
 use Rattle.std.proofs.Common.{ap, get_or, ℕ, arith}
-use Rattle.finish.proofs.More.{bounds_with_one_more, counted_more, arrivals_more, knows_full}
+use Rattle.finish.proofs.MoreArrivals.{bounds_with_one_more, counted_more, arrivals_more, knows_full}
 use Rattle.finish.specs.Ledgers.{first}
 use Rattle.finish.proofs.ledger.Ledger.arrive.Goals as goal
 
@@ -19,7 +19,7 @@ returns-then-k-lt-MOST_FIRINGS-clause-admits c n cost α fired h =
       few = h.few;
       waits = h.waits;
       arrivals = arrivals_more n cost α fired l c.args.clock c.args.task h c.min.result (omega arith) (omega (arith, c.min.ensures)) c.if-k-lt-MOST_FIRINGS.true;
-      arrived = λ v vm. counted_more n cost α fired l c.args.clock c.args.task h v vm (omega arith) c.if-k-lt-MOST_FIRINGS.true;
+      arrived = counted_more n cost α fired l c.args.clock c.args.task h (omega arith) c.if-k-lt-MOST_FIRINGS.true;
       ended = h.ended;
       bounds = bounds_with_one_more α c.args.clock c.args.task n cost 256 (λ v. first (fired v)) l.ready l.bounds h.bounds;
     }

@@ -1,5 +1,5 @@
 -- The memory begins with zeros.
-use Rattle.finish.proofs.Whole.{kept_zeros}
+use Rattle.finish.proofs.Zeros.{kept_zeros}
 use Rattle.finish.proofs.ledger.Ledger.new.Goals as goal
 
 pub worst_waits-requires-clause-kept : goal.worst_waits-requires-clause-kept

@@ -1,10 +1,10 @@
--- Of the first e edges, each into a task holds a token.
-use Rattle.std.proofs.Common.{◌≡◌, ℕ, ◌<◌, Decides, length, vec_len}
+-- The first v tasks are judged.
+use Rattle.std.proofs.Common.{◌≡◌, ℕ, ◌<◌, length}
 use Rattle.flow.specs.Nets.{net_of}
+use Rattle.runs.specs.States.{supplied}
 use Rattle.runner.specs.Boards.{shown}
 use Rattle.runner.specs.Serves.{marked}
-use Rattle.runner.proofs.Judging.{SoFar}
 use Rattle.runner.proofs.board.Board.ready.Given as goal
 
-abbrev pub invariant-loop-e : goal.invariant-loop-e
-invariant-loop-e l = (length l.ready ≡ 16) × ((v : ℕ) → v < vec_len l.graph.tasks → Decides (marked l.ready v) (SoFar (net_of l.graph) (shown l.self) l.e v))
+abbrev pub invariant-loop-v : goal.invariant-loop-v
+invariant-loop-v l = (length l.ready ≡ 16) × ((u : ℕ) → u < l.v → marked l.ready u ≡ supplied (net_of l.graph) (shown l.self) u)

@@ -52,4 +52,4 @@ returns-clause-goes g c =
     let inlet : (net_of c.args.self.now.graph).inlet c.args.task ≡ true =
     sym (ap (λ (t : Task). t.inlet) (get_or_read c.args.self.now.graph.tasks.items c.args.task c.index.result.now (search rules) c.index.ensures no_task)) ∙ c.if-not-index.false in
     arrive_goes g.R.Rack.places g.R.Rack.steps c.args.self.now _ refl refl c.args.task there inlet (omega (arith, c.if-waiting-ge-MOST_WAITING.false, c.waiting.ensures))
-    (same_alike (net_of c.args.self.now.graph) (shown c.arrive.new.self) (arrived (shown c.args.self.now.board) c.args.task) c.arrive.ensures)
+    (same_alike (net_of c.args.self.now.graph) (shown c.arrive.new.self) (arrived (shown c.args.self.now.board) c.args.task) c.arrive.ensures.stands)

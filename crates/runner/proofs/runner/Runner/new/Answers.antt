@@ -11,7 +11,7 @@ returns g c =
       record {
         its_graph = refl;
         its_rack = refl;
-        stands = c.new-board.ensures;
-        led = λ slots. record { fits = omega (arith, racked.0); run = begin; stands = c.new-board.ensures };
+        stands = c.new-board.ensures.stands;
+        led = λ slots. record { fits = omega (arith, racked.0); run = begin; stands = c.new-board.ensures.stands };
       },
     )

@@ -7,6 +7,7 @@ use Rattle.runs.specs.Runs.{tick, why, Whole, Sweep}
 use Rattle.runs.proofs.Forget.{Shows}
 use Rattle.runner.specs.Boards.{shown}
 use Rattle.runner.specs.Records.{told, lying, ended}
+use Rattle.runner.specs.Marks.{Marked}
 use Rattle.runner.specs.Serves.{marked}
 use Rattle.runner.specs.Runners.{whole_with, TickDone}
 use Rattle.runner.proofs.Going.{misfit, spent, no_room, goes, refused_goes_on, tick_goes_on}
@@ -83,14 +84,13 @@ pub returns-clause-answers : goal.returns-clause-answers
 returns-clause-answers g c = open_to g c (whole_with c.args.self.now (contents c.args.belt.now)) refl (length-map (contents c.args.belt.now) told)
 
 done_so :
-    (g : given.Over) → (c : goal.After-put_records g) →
-    TickDone g.R.Rack.places g.R.Rack.steps c.args.self.now c.args.belt.now c.args.claims.now (record { graph = c.args.self.now.graph; rack = c.sweep-grants.new.rack; board = c.tick-ends.new.self }) c.put_records.new.belt
-done_so g c =
+    (g : given.Over) → (c : goal.After-put_records g) → (m : Marked c.args.self.now.graph c.tick-ends.new.self) →
+    TickDone g.R.Rack.places g.R.Rack.steps c.args.self.now c.args.belt.now c.args.claims.now (record { graph = c.args.self.now.graph; rack = c.sweep-grants.new.rack; board = c.tick-ends.new.self; marked = m }) c.put_records.new.belt
+done_so g c m =
     let r = c.args.self.now in
     let n = net_of r.graph in
     let b = c.args.belt.now in
     let gr = marked c.sweep-grants.result in
-    let m = c.len-tasks.result in
     let fit : length c.args.claims.now ≡ vec_len r.graph.tasks = c.if-claims-tasks.false ∙ c.len-tasks.ensures in
     let moves = c.tick-ends.ensures.moves in
     let put = c.put_records.ensures.put (omega (arith, c.free.ensures, c.if-free-tasks.false)) in
@@ -106,10 +106,10 @@ done_so g c =
     }
 
 pub returns-clause-turns : goal.returns-clause-turns
-returns-clause-turns g c = done_so g c
+returns-clause-turns g c = done_so g c _
 
 pub returns-clause-goes : goal.returns-clause-goes
-returns-clause-goes g c = tick_goes_on g.R.Rack.places g.R.Rack.steps c.args.self.now c.args.belt.now c.args.claims.now g.R.Rack.service (shows g) _ c.put_records.new.belt (done_so g c) (open_to g c)
+returns-clause-goes g c = tick_goes_on g.R.Rack.places g.R.Rack.steps c.args.self.now c.args.belt.now c.args.claims.now g.R.Rack.service (shows g) _ c.put_records.new.belt (done_so g c _) (open_to g c)
 
 pub returns-then-claims-tasks-clause-timely : goal.returns-then-claims-tasks-clause-timely
 returns-then-claims-tasks-clause-timely g c = timely g.R.Rack.places g.R.Rack.service g.R.Rack.steps (shows g) _

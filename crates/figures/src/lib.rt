@@ -1,0 +1,6 @@
+#![tactic(auto)]
+
+mod critical;
+pub mod figures;
+mod loads;
+pub mod ring_tasks;

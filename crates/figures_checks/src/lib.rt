@@ -1,0 +1,4 @@
+#![tactic(auto)]
+
+#[cfg(test)]
+mod figures_tests;
