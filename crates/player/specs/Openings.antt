@@ -51,6 +51,7 @@ pub record Taken {R Z : Type 0} (p : Player R) (line : CallLine) (v : Vec ℕ Z)
   pub added : Added v bytes w
   pub takes : Takes p line bytes q
 
+-- What `begin` does, or where memory lacks.
 abbrev pub Begins : {R Z : Type 0} → Player R → CallLine → Vec ℕ Z → Result Unit AllocError → Player R → Vec ℕ Z → Type 0
 Begins p line v (Ok _) q w = Taken p line v q w
 Begins p line v (Err _) q w = Starved p v q w

@@ -26,6 +26,16 @@ pub record Starved {R Z : Type 0} (p : Player R) (v : Vec ℕ Z) (q : Player R) 
   pub room : vec_capacity w ≡ vec_capacity v
   pub short : vec_capacity v < vec_len v + 1216
 
+-- The lines of the records that a call put; a refused call puts none.
+abbrev pub Prints : Net → Cost → Arrivals → List (List ℕ) → Result Unit Fault → List Finished → List ℕ → Type 0
+Prints n cost α names (Ok _) put bytes = Lines n cost α names put bytes
+Prints n cost α names (Err _) put bytes = put ≡ []
+
+-- The line of a refusal is all that a refused call prints.
+abbrev pub Refusal : Result Unit Fault → List ℕ → Type 0
+Refusal (Ok _) bytes = Unit {0}
+Refusal (Err e) bytes = bytes ≡ fault_line e ++ end
+
 module _ {R : Type 0} (places : R → ℕ) (service : R → ℕ → Service) (steps : R → ℕ → Bool → Bool → R → Type 0) where
   -- What was said so leads to the player's runner, from a new one on the rack `first`; every record was taken off the belt; and the ledger knows the arrivals and the firings that ended.
   pub record Follows (first : R) (slots : ℕ) (said : List Said) (x : Whole) (p : Player R) : Type 0 where
@@ -35,11 +45,6 @@ module _ {R : Type 0} (places : R → ℕ) (service : R → ℕ → Service) (st
     pub ended : ℕ → ℕ
     pub ended_are : (v : ℕ) → v < vec_len p.runner.graph.tasks → ended v ≡ x.state.fired v
     pub knows : Knows (net_of p.runner.graph) (by_worst (net_of p.runner.graph) (service first)) (arrivals_of said) ended p.ledger
-
-  -- The lines of the records that a call put; a refused call puts none.
-  abbrev pub Prints : Net → Cost → Arrivals → List (List ℕ) → Result Unit Fault → List Finished → List ℕ → Type 0
-  Prints n cost α names (Ok _) put bytes = Lines n cost α names put bytes
-  Prints n cost α names (Err _) put bytes = put ≡ []
 
   -- What this run has with the call and its answer put on: the player follows it, and these bytes are of the records that it has more.
   pub record Continues (first : R) (slots : ℕ) (said : List Said) (x : Whole) (p : Player R) (call : Call) (answer : Result Unit Fault) (bytes : List ℕ) (q : Player R) : Type 0 where
@@ -63,11 +68,6 @@ module _ {R : Type 0} (places : R → ℕ) (service : R → ℕ → Service) (st
     pub does : Does p call answer bytes q
     pub silent : IsErr answer → bytes ≡ []
 
-  -- The line of a refusal is all that a refused call prints.
-  abbrev pub Refusal : Result Unit Fault → List ℕ → Type 0
-  Refusal (Ok _) bytes = Unit {0}
-  Refusal (Err e) bytes = bytes ≡ fault_line e ++ end
-
   -- One call of the line under way, and what is then left of it.
   pub record Steps (p : Player R) (bytes : List ℕ) (q : Player R) : Type 0 where
     pub under_way : 1 ≤ p.work.left
@@ -83,6 +83,7 @@ module _ {R : Type 0} (places : R → ℕ) (service : R → ℕ → Service) (st
     pub idle : p.work.left ≡ 0 → (q ≡ p) × (bytes ≡ [])
     pub busy : 1 ≤ p.work.left → Steps p bytes q
 
+  -- What a step does, or where memory lacks.
   abbrev pub Stepped : {Z : Type 0} → Player R → Vec ℕ Z → Result Unit AllocError → Player R → Vec ℕ Z → Type 0
   Stepped p v (Ok _) q w = Appended p v q w
   Stepped p v (Err _) q w = Starved p v q w
@@ -92,12 +93,13 @@ module _ {R : Type 0} (places : R → ℕ) (service : R → ℕ → Service) (st
     no_call : Many p [] p
     then : {bytes more : List ℕ} {q r : Player R} → Many p bytes q → Steps q more r → Many p (bytes ++ more) r
 
-  -- So many calls were made that the line is done, or that so many bytes are in the buffer.
+  -- So many calls were made, and what they print is appended.
   pub record Gone {Z : Type 0} (p : Player R) (v : Vec ℕ Z) (q : Player R) (w : Vec ℕ Z) : Type 0 where
     pub bytes : List ℕ
     pub added : Added v bytes w
     pub many : Many p bytes q
 
+  -- The line is done, or so many bytes are in the buffer; or memory lacks for one more call before either.
   abbrev pub Went : {Z : Type 0} → Player R → Vec ℕ Z → ℕ → Result Unit AllocError → Player R → Vec ℕ Z → Type 0
   Went p v most (Ok _) q w = Gone p v q w × ((q.work.left ≡ 0) ⊎ (most ≤ vec_len w))
   Went p v most (Err _) q w = Gone p v q w × (vec_len w < most) × (vec_capacity w < vec_len w + 1216)

@@ -46,9 +46,9 @@ module _ {R : Type 0} (places : R → ℕ) (service : R → ℕ → Service) (st
   pub reads_some :
       (s : Session R) (bytes : List ℕ) (r : Session R) (answer : Result ℕ AllocError) → r.player ≡ s.player →
       MatchResult answer (λ n. Carried s.ahead s.given bytes n r.ahead r.given) (λ _. (n : ℕ) × Carried s.ahead s.given bytes n r.ahead r.given × TooLong s.ahead bytes n r.ahead) →
-      MatchResult answer (λ n. Reads places service steps s bytes n r) (λ _. (n : ℕ) × Reads places service steps s bytes n r)
+      MatchResult answer (λ n. Reads places service steps s bytes n r) (λ _. (n : ℕ) × Reads places service steps s bytes n r × TooLong s.ahead bytes n r.ahead)
   reads_some s bytes r (Ok n) same c = reads_on s bytes n r same c
-  reads_some s bytes r (Err e) same c = (c.0, reads_on s bytes c.0 r same c.1)
+  reads_some s bytes r (Err e) same c = (c.0, reads_on s bytes c.0 r same c.1, c.2)
 
   -- What was read where nothing is left of it.
   read_idle : (s : Session R) → Idle s → (gs : List Given) (t : List ℕ) → IsRead t (gs ++ contents s.given) s.ahead → IsRead t gs s.ahead

@@ -27,12 +27,15 @@ heading = line_of (codes "task" ∷ codes "firing" ∷ codes "finish" ∷ codes 
 abbrev pub SheetRack : Type 0
 SheetRack = Row (Stack AnyKind)
 
+-- How many places it has.
 abbrev pub sheet_places : SheetRack → ℕ
 sheet_places a = vec_len a.servers
 
+-- What the server at a place of it offers.
 abbrev pub sheet_service : SheetRack → ℕ → Service
 sheet_service a = row_service (stack_service any_service) (vec_items a.servers)
 
+-- A tick at a place of it is one of the server there.
 abbrev pub sheet_steps : SheetRack → ℕ → Bool → Bool → SheetRack → Type 0
 sheet_steps a k claimed granted b = RowSteps (StackSteps AnySteps) (vec_items a.servers) k claimed granted (vec_items b.servers)
 
@@ -43,6 +46,7 @@ pub record OpensWith (t : List ℕ) (slots : ℕ) (s : Session SheetRack) : Type
   pub starts : Starts sheet_places sheet_service sheet_steps (vec_items sheet.tasks) sheet.graph sheet.rack slots s.player
   pub plays : Plays sheet_places sheet_service sheet_steps s.player [] [] s
 
+-- A sheet's session and the heading, or no session and the refusal of the text; where memory lacks, the buffer's contents are as they were.
 abbrev pub Opens : {Z : Type 0} → List ℕ → ℕ → Vec ℕ Z → Result (Option (Session SheetRack)) AllocError → Vec ℕ Z → Type 0
 Opens t slots v (Ok (Some s)) w = OpensWith t slots s × Added v heading w
 Opens t slots v (Ok None) w = (f : Fault) × Refused t f × Added v (fault_line f ++ end) w

@@ -1,5 +1,5 @@
 -- What a session has printed of the text that it read, and how its calls carry that on.
-use Rattle.std.specs.Prelude.{◌≡◌, ℕ, ◌+◌, ◌<◌, ◌≤◌, ◌⊎◌, Bool, List, [], ◌∷◌, ◌++◌, take, Ok, Err, Result, Vec, vec_items, vec_len, vec_capacity}
+use Rattle.std.specs.Prelude.{◌≡◌, ℕ, ◌+◌, ◌<◌, ◌≤◌, ◌⊎◌, Bool, true, List, [], ◌∷◌, ◌++◌, take, Ok, Err, Result, Vec, vec_items, vec_len, vec_capacity}
 use Rattle.std.specs.declared.alloc.AllocError.{AllocError}
 use Rattle.servers.specs.Service.{Service}
 use Rattle.belt.specs.Belts.{contents}
@@ -15,6 +15,11 @@ use Rattle.session.specs.declared.session.Session.{Session}
 pub record Idle {R : Type 0} (s : Session R) : Type 0 where
   pub player : s.player.work.left ≡ 0
   pub given : contents s.given ≡ []
+
+-- A line was refused, and nothing above it is left.
+pub record Done {R : Type 0} (s : Session R) : Type 0 where
+  pub over : s.ahead.is_over ≡ true
+  pub idle : Idle s
 
 module _ {R : Type 0} (places : R → ℕ) (service : R → ℕ → Service) (steps : R → ℕ → Bool → Bool → R → Type 0) where
   -- From the player p this text was read, and these bytes are printed of its first lines; what the others gave lies on the belt.
@@ -50,11 +55,13 @@ module _ {R : Type 0} (places : R → ℕ) (service : R → ℕ → Service) (st
     pub prints : Prints s bytes r
     pub until : Idle r ⊎ (4096 ≤ vec_len w)
 
+  -- Where no memory is to be had, which a buffer with room for as many bytes as are written at once, and one call more, never wants, session and buffer are as they were.
   pub record Stays {Z : Type 0} (s : Session R) (v : Vec ℕ Z) (r : Session R) (w : Vec ℕ Z) : Type 0 where
     pub same : r ≡ s
     pub items : vec_items w ≡ vec_items v
     pub short : vec_capacity v < vec_len v + 5312
 
+  -- What `go` does, or where memory lacks.
   abbrev pub Works : {Z : Type 0} → Session R → Vec ℕ Z → Result Unit AllocError → Session R → Vec ℕ Z → Type 0
   Works s v (Ok _) r w = WorksOff s v r w
   Works s v (Err _) r w = Stays s v r w
@@ -74,6 +81,7 @@ module _ {R : Type 0} (places : R → ℕ) (service : R → ℕ → Service) (st
     pub added : Added v bytes w
     pub all : Idle s → (p : Player R) (t printed : List ℕ) → Plays p t printed s → PlaysAll p t (printed ++ bytes)
 
+  -- What `end` does, or where memory lacks.
   abbrev pub Ends : {Z : Type 0} → Session R → Vec ℕ Z → Result Unit AllocError → Vec ℕ Z → Type 0
   Ends s v (Ok _) w = Closes s v w
   Ends s v (Err _) w = (vec_items w ≡ vec_items v) × (vec_capacity v < vec_len v + 1216)

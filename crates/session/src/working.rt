@@ -1,4 +1,4 @@
-ghost use Rattle.std.specs.Prelude.{◌≡◌, ◌+◌, ◌<◌, ◌≤◌, ◌↔◌, ℕ, List, IsTrue, false, MatchResult, vec_len, vec_capacity};
+ghost use Rattle.std.specs.Prelude.{◌≡◌, ◌+◌, ◌<◌, ◌≤◌, ◌↔◌, ℕ, List, IsTrue, false, IfOk, MatchResult, vec_len, vec_capacity};
 
 use crate::session::Session;
 use ahead::given::Given;
@@ -11,7 +11,8 @@ use texts::fault::put_fault;
 pub const FULL: usize = 4096;
 
 impl<R: Rack> Session<'_, '_, R> {
-    ghost use Rattle.session.specs.Sessions.{Reads, Works, Worked, Idle, Finishes, Ends};
+    ghost use Rattle.ahead.specs.Steps.{Stops, TooLong};
+    ghost use Rattle.session.specs.Sessions.{Reads, Works, Worked, Idle, Done, Finishes, Ends};
 
     /// Whether something that was read is still to be worked off.
     pub fn is_busy(&self) -> bool
@@ -22,7 +23,8 @@ impl<R: Rack> Session<'_, '_, R> {
 
     /// Whether nothing is left to do, whatever comes behind what was read: a line was refused, and all above it is worked off.
     pub fn is_done(&self) -> bool
-        ensures { IsTrue result → Finishes R.Rack.places R.Rack.service R.Rack.steps self.now }
+        ensures value { IsTrue result ↔ Done self.now }
+        ensures whole { IsTrue result → Finishes R.Rack.places R.Rack.service R.Rack.steps self.now }
     {
         self.ahead.is_over() && !self.is_busy()
     }
@@ -30,7 +32,8 @@ impl<R: Rack> Session<'_, '_, R> {
     /// Reads bytes that come next. Answers how many of them were read: all, or those up to where what was read has first to be worked off.
     /// Memory is wanted only for a line that is longer than a call's; then the lines above it were read.
     pub fn take(&mut self, bytes: &[u8]) -> Result<usize, AllocError>
-        ensures { MatchResult result (λ n. Reads R.Rack.places R.Rack.service R.Rack.steps self.old bytes.now n self.new) (λ _. (n : ℕ) × Reads R.Rack.places R.Rack.service R.Rack.steps self.old bytes.now n self.new) }
+        ensures reads { MatchResult result (λ n. Reads R.Rack.places R.Rack.service R.Rack.steps self.old bytes.now n self.new) (λ _. (n : ℕ) × Reads R.Rack.places R.Rack.service R.Rack.steps self.old bytes.now n self.new × TooLong self.old.ahead bytes.now n self.new.ahead) }
+        ensures stops { IfOk result (λ n. Stops bytes.now n self.new.ahead self.new.given) }
     {
         self.ahead.take(bytes, &mut self.given)
     }
