@@ -5,7 +5,7 @@ use Rattle.flow.specs.Nets.{net_of}
 use Rattle.flow.specs.Finish.{Finish, by_worst}
 use Rattle.flow.specs.Rings.{Cycle, Starts}
 use Rattle.runs.specs.Runs.{Said, arrivals_of, Whole}
-use Rattle.runs.specs.Claims.{Ended}
+use Rattle.runs.specs.Claims.{Ended, SameFigures}
 use Rattle.runner.specs.Boards.{shown}
 use Rattle.runner.specs.Runners.{Led}
 use Rattle.runner.specs.declared.runner.Runner.{Runner}
@@ -26,3 +26,9 @@ InPace {R} places service steps r =
     ((u k : ℕ) → u < vec_len r.graph.tasks → (net_of r.graph).inlet u ≡ true → k ≤ i → (k < (arrivals_of said).count u) × (parts * (arrivals_of said).stamp u k ≤ k * cycle)) →
     start v + i * cycle ≤ parts * (shown r.board).clock →
     (i < (shown r.board).fired v) × (c : ℕ) × (parts * c ≤ start v + i * cycle) × Ended x.state v i c
+
+-- The figures of each task's server are those of the rack with which the runner was made: what was told of that rack is true of this one.
+abbrev pub Steady : {R : Type 0} → (R → ℕ) → (R → ℕ → Service) → (R → ℕ → Bool → Bool → R → Type 0) → Runner R → Type 0
+Steady {R} places service steps r =
+    (first : R) (slots : ℕ) (said : List Said) (x : Whole) → Led places steps first slots said r x →
+    (v : ℕ) → v < vec_len r.graph.tasks → SameFigures (service first v) (service r.rack v)

@@ -1,11 +1,12 @@
-ghost use Rattle.std.specs.Prelude.{ℕ, ◌≡◌, ◌+◌, ◌<◌, ◌≤◌, false, IsTrue, slice_index, length};
-ghost use Rattle.graph.specs.Edges.{Ends};
+ghost use Rattle.std.specs.Prelude.{ℕ, ◌≡◌, ◌+◌, ◌-◌, ◌<◌, ◌≤◌, ◌==◌, false, IsTrue, slice_index, length, vec_items};
+ghost use Rattle.graph.specs.Edges.{Ends, edge_at};
+ghost use Rattle.runs.specs.States.{one};
 ghost use Rattle.runner.specs.Tasks.{task_in};
 ghost use Rattle.runner.specs.Serves.{AllServed, Carried, Fed, marked};
 
 use crate::task::{Stage, TaskRecord};
 use graph::graph::Graph;
-use graph::parts::{Edge, MOST_EDGES, MOST_TASKS};
+use graph::parts::{Edge, MOST_EDGES, MOST_TASKS, Task};
 
 /// A mark at each task, or none.
 pub(crate) type Marks = [bool; MOST_TASKS];
@@ -53,19 +54,46 @@ fn is_blank(marks: &Marks) -> bool
     !marks.contains(&true)
 }
 
-// Takes a token from each edge into a task where a firing starts, and adds one to each edge out of a task where one ends.
-fn carry(held: &mut [u64; MOST_EDGES], edges: &[Edge], starts: &Marks, ends: &Marks)
+// Takes a token from each edge into a task where a firing starts.
+fn take_tokens(held: &mut [u64; MOST_EDGES], edges: &[Edge], starts: &Marks)
     requires few { length edges.now ≤ 48 }
     requires within { Ends edges.now 16 }
-    requires laden { (e : ℕ) → slice_index held.old e ≤ 2000000000 }
-    ensures { Carried edges.now starts.now ends.now held.old held.new }
+    ensures taken { (e : ℕ) → e < length edges.now → slice_index held.new e ≡ slice_index held.old e - one (marked starts.now (edge_at edges.now e).to) }
+    ensures rest { (e : ℕ) → length edges.now ≤ e → slice_index held.new e ≡ slice_index held.old e }
 {
     for (e, edge) in edges.iter().enumerate() {
         if starts[edge.to] {
             held[e] = held[e].saturating_sub(1);
         }
-        if ends[edge.from] {
+    }
+}
+
+// Adds a token to each edge out of task v.
+fn add_from(held: &mut [u64; MOST_EDGES], edges: &[Edge], v: usize)
+    requires few { length edges.now ≤ 48 }
+    requires laden { (e : ℕ) → slice_index held.old e ≤ 3000000000 }
+    ensures added { (e : ℕ) → e < length edges.now → slice_index held.new e ≡ slice_index held.old e + one ((edge_at edges.now e).from == v) }
+    ensures rest { (e : ℕ) → length edges.now ≤ e → slice_index held.new e ≡ slice_index held.old e }
+{
+    for (e, edge) in edges.iter().enumerate() {
+        if edge.from == v {
             held[e] += 1;
+        }
+    }
+}
+
+// Adds a token to each edge out of a task where a firing ends, in task order.
+fn add_tokens(held: &mut [u64; MOST_EDGES], tasks: &[Task], edges: &[Edge], ends: &Marks)
+    requires few_tasks { length tasks.now ≤ 16 }
+    requires few { length edges.now ≤ 48 }
+    requires within { Ends edges.now (length tasks.now) }
+    requires laden { (e : ℕ) → slice_index held.old e ≤ 2000000000 }
+    ensures added { (e : ℕ) → e < length edges.now → slice_index held.new e ≡ slice_index held.old e + one (marked ends.now (edge_at edges.now e).from) }
+    ensures rest { (e : ℕ) → length edges.now ≤ e → slice_index held.new e ≡ slice_index held.old e }
+{
+    for (v, _) in tasks.iter().enumerate() {
+        if ends[v] {
+            add_from(held, edges, v);
         }
     }
 }
@@ -89,22 +117,21 @@ fn fed_by(held: &[u64; MOST_EDGES], edges: &[Edge]) -> Marks
 fn move_tokens(
     held: &mut [u64; MOST_EDGES],
     fed: &mut Marks,
-    edges: &[Edge],
+    graph: &Graph,
     starts: &Marks,
     ends: &Marks,
 )
-    requires few { length edges.now ≤ 48 }
-    requires within { Ends edges.now 16 }
     requires laden { (e : ℕ) → slice_index held.old e ≤ 2000000000 }
-    requires fed { Fed edges.now held.old fed.old }
-    ensures carried { Carried edges.now starts.now ends.now held.old held.new }
-    ensures fed { Fed edges.now held.new fed.new }
+    requires fed { Fed (vec_items graph.now.edges) held.old fed.old }
+    ensures carried { Carried (vec_items graph.now.edges) starts.now ends.now held.old held.new }
+    ensures fed { Fed (vec_items graph.now.edges) held.new fed.new }
 {
     if is_blank(starts) && is_blank(ends) {
         return;
     }
-    carry(held, edges, starts, ends);
-    *fed = fed_by(held, edges);
+    take_tokens(held, &graph.edges, starts);
+    add_tokens(held, &graph.tasks, &graph.edges, ends);
+    *fed = fed_by(held, &graph.edges);
 }
 
 impl Board {
@@ -216,8 +243,7 @@ impl Board {
     {
         let ready = self.ready(graph);
         let (starts, ends) = serve_all(&mut self.tasks, graph.tasks.len(), &ready, grants);
-        let edges = &graph.edges;
-        move_tokens(&mut self.held, &mut self.fed, edges, &starts, &ends);
+        move_tokens(&mut self.held, &mut self.fed, graph, &starts, &ends);
         self.clock += 1;
         ends
     }

@@ -50,7 +50,7 @@ impl<R: Rack> Runner<R> {
     ghost use Rattle.runs.specs.Exact.{Exact, NoSmaller};
     ghost use Rattle.runner.specs.Boards.{shown};
     ghost use Rattle.runner.specs.Alone.{RunnersExact};
-    ghost use Rattle.runner.specs.Promises.{Timely, InPace};
+    ghost use Rattle.runner.specs.Promises.{Timely, InPace, Steady};
     ghost use Rattle.runner.specs.Runners.{Made, shown_whole, Answers, Turns, Goes, whole_with, Ticks, GoesOn};
     ghost use Rattle.belt.specs.Belts.{contents, room};
 
@@ -113,6 +113,7 @@ impl<R: Rack> Runner<R> {
 
     /// One tick of every task's place, in order, with a claim of others for each. The records of the firings that end by it go on the belt.
     /// `timely`: every firing whose finish bound is not above the clock is finished. `paced`: firing i is finished by its start figure and i cycles, where arrivals keep to the cycle.
+    /// `steady`: the bounds, cycle and start figures that were told of the rack before it was handed over are those of the runner's.
     /// `exact`: one task alone on a fixed slice ends exactly at its bound in some phase, so that no smaller bound is true in all phases.
     pub fn tick(&mut self, claims: &[bool], belt: &mut Belt<'_, Record>) -> Result<(), Fault>
         ensures answers { Answers (why (net_of self.old.graph) (room belt.old) (whole_with self.old (contents belt.old)) (tick_with claims.now)) result }
@@ -120,6 +121,7 @@ impl<R: Rack> Runner<R> {
         ensures goes { GoesOn R.Rack.places R.Rack.steps self.old belt.old (tick_with claims.now) result self.new belt.new }
         ensures timely { Timely R.Rack.places R.Rack.service R.Rack.steps self.new }
         ensures paced { InPace R.Rack.places R.Rack.service R.Rack.steps self.new }
+        ensures steady { Steady R.Rack.places R.Rack.service R.Rack.steps self.new }
         ensures exact { Exact × NoSmaller × RunnersExact }
     {
         let tasks = self.graph.tasks.len();

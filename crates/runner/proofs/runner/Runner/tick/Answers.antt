@@ -14,7 +14,7 @@ use Rattle.runner.proofs.Going.{misfit, spent, no_room, goes, refused_goes_on, t
 use Rattle.runner.proofs.Alikes.{one_net, alike_self, ended_is}
 use Rattle.runs.proofs.Exact.{exact, no_smaller}
 use Rattle.runner.proofs.Alone.{runners_exact}
-use Rattle.runner.proofs.Kept.{timely, in_pace}
+use Rattle.runner.proofs.Kept.{timely, in_pace, steady}
 use Rattle.runner.proofs.runner.Runner.tick.Given as given
 use Rattle.runner.proofs.runner.Runner.tick.Goals as goal
 
@@ -117,6 +117,9 @@ returns-then-claims-tasks-clause-timely g c = timely g.R.Rack.places g.R.Rack.se
 pub returns-then-claims-tasks-clause-paced : goal.returns-then-claims-tasks-clause-paced
 returns-then-claims-tasks-clause-paced g c = in_pace g.R.Rack.places g.R.Rack.service g.R.Rack.steps (shows g) _
 
+pub returns-then-claims-tasks-clause-steady : goal.returns-then-claims-tasks-clause-steady
+returns-then-claims-tasks-clause-steady g c = steady g.R.Rack.places g.R.Rack.service g.R.Rack.steps (shows g) _
+
 pub returns-then-claims-tasks-clause-exact : goal.returns-then-claims-tasks-clause-exact
 returns-then-claims-tasks-clause-exact g c = (exact, no_smaller, runners_exact)
 
@@ -125,6 +128,9 @@ returns-then-clock-ge-LAST_CLOCK-clause-timely g c = timely g.R.Rack.places g.R.
 
 pub returns-then-clock-ge-LAST_CLOCK-clause-paced : goal.returns-then-clock-ge-LAST_CLOCK-clause-paced
 returns-then-clock-ge-LAST_CLOCK-clause-paced g c = in_pace g.R.Rack.places g.R.Rack.service g.R.Rack.steps (shows g) _
+
+pub returns-then-clock-ge-LAST_CLOCK-clause-steady : goal.returns-then-clock-ge-LAST_CLOCK-clause-steady
+returns-then-clock-ge-LAST_CLOCK-clause-steady g c = steady g.R.Rack.places g.R.Rack.service g.R.Rack.steps (shows g) _
 
 pub returns-then-clock-ge-LAST_CLOCK-clause-exact : goal.returns-then-clock-ge-LAST_CLOCK-clause-exact
 returns-then-clock-ge-LAST_CLOCK-clause-exact g c = (exact, no_smaller, runners_exact)
@@ -135,6 +141,9 @@ returns-then-free-tasks-clause-timely g c = timely g.R.Rack.places g.R.Rack.serv
 pub returns-then-free-tasks-clause-paced : goal.returns-then-free-tasks-clause-paced
 returns-then-free-tasks-clause-paced g c = in_pace g.R.Rack.places g.R.Rack.service g.R.Rack.steps (shows g) _
 
+pub returns-then-free-tasks-clause-steady : goal.returns-then-free-tasks-clause-steady
+returns-then-free-tasks-clause-steady g c = steady g.R.Rack.places g.R.Rack.service g.R.Rack.steps (shows g) _
+
 pub returns-then-free-tasks-clause-exact : goal.returns-then-free-tasks-clause-exact
 returns-then-free-tasks-clause-exact g c = (exact, no_smaller, runners_exact)
 
@@ -143,6 +152,9 @@ returns-clause-timely g c = timely g.R.Rack.places g.R.Rack.service g.R.Rack.ste
 
 pub returns-clause-paced : goal.returns-clause-paced
 returns-clause-paced g c = in_pace g.R.Rack.places g.R.Rack.service g.R.Rack.steps (shows g) _
+
+pub returns-clause-steady : goal.returns-clause-steady
+returns-clause-steady g c = steady g.R.Rack.places g.R.Rack.service g.R.Rack.steps (shows g) _
 
 pub returns-clause-exact : goal.returns-clause-exact
 returns-clause-exact g c = (exact, no_smaller, runners_exact)

@@ -1,0 +1,11 @@
+-- The first e edges are done.
+use Rattle.std.proofs.Common.{◌≡◌, ℕ, ◌+◌, ◌==◌, ◌<◌, ◌≤◌, length, slice_index}
+use Rattle.graph.specs.Edges.{edge_at}
+use Rattle.runs.specs.States.{one}
+use Rattle.runner.proofs.board.add_from.Given as goal
+
+abbrev pub invariant-loop-e : goal.invariant-loop-e
+invariant-loop-e l =
+    (length l.held ≡ 48)
+    × ((e : ℕ) → e < l.e → slice_index l.held e ≡ slice_index l.initial.held e + one ((edge_at l.edges e).from == l.v))
+    × ((e : ℕ) → l.e ≤ e → slice_index l.held e ≡ slice_index l.initial.held e)
