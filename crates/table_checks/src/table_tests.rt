@@ -11,6 +11,7 @@ use racks::side_by_side::SideBySide;
 use rows::Row;
 use servers::fixed::Fixed;
 use servers::own::Own;
+use servers::server::Server;
 use servers::settings::Settings;
 use std::alloc::Global;
 use std::test::Fail;
@@ -86,6 +87,37 @@ fn one_task_alone(rt: HostRuntime) -> Result<(), Fail> {
             expected,
             "{slice} of {period}, time {time}"
         );
+    }
+    Ok(())
+}
+
+// By lead and pace a firing ends its pace after the one before it, or lead and pace after its arrival.
+#[test]
+fn one_task_by_lead_and_pace(rt: HostRuntime) -> Result<(), Fail> {
+    for (period, slice, time, times, expected) in [
+        (10, 4, 6, &[0, 5, 40][..], &[21, 36, 61][..]),
+        (
+            100,
+            10,
+            4,
+            &[0, 0, 0, 0, 0, 0][..],
+            &[130, 170, 210, 250, 290, 330][..],
+        ),
+        (
+            100,
+            10,
+            15,
+            &[0, 0, 0, 0, 0, 0][..],
+            &[240, 390, 540, 690, 840, 990][..],
+        ),
+    ] {
+        let server = slice_of(slice, period, 0)?;
+        let (lead, pace) = (server.lead()?, server.pace(time)?);
+        let mut end = 0_u64;
+        for (arrival, expected) in times.iter().zip(expected) {
+            end = end.max(lead.saturating_add(*arrival)).saturating_add(pace);
+            assert_eq!(rt; end, *expected, "{slice} of {period}, time {time}");
+        }
     }
     Ok(())
 }
