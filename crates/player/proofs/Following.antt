@@ -28,7 +28,7 @@ use Rattle.runner.proofs.Going.{tick_leads, tick_puts}
 use Rattle.player.specs.Lines.{Lines, none, with_these, InTurn, Told}
 use Rattle.player.specs.Players.{Follows, Does, Puts}
 use Rattle.player.specs.declared.player.Player.{Player}
-use Rattle.player.proofs.Turns.{Ripe, ripe, all_in_turn, all_counted, put_short}
+use Rattle.player.proofs.Turns.{Ripe, ripe, NoneLate, none_late, all_in_turn, all_counted, put_short}
 
 -- The reasons against a call have numbers of their own.
 numbered : (n : Net) (slots : ℕ) (x : Whole) (call : Call) (k : ℕ) → why n slots x call ≡ Some k → number_of (reason_by k) ≡ k
@@ -206,7 +206,7 @@ module _ {R : Type 0} (places : R → ℕ) (service : R → ℕ → Service) (st
     tick_done :
         (p q : Player R) (claims : List Bool) (after : List (Option Record)) (bytes : List ℕ) → q.tasks ≡ p.tasks → contents p.records ≡ [] → room q.records ≡ room after →
         why (net_of p.runner.graph) (room p.records) (whole_with p.runner (contents p.records)) (tick claims) ≡ None → TickDone places steps p.runner p.records claims q.runner after →
-        ((cost : Cost) (α : Arrivals) (fired : ℕ → ℕ) → Knows (net_of p.runner.graph) cost α fired p.ledger → InTurn (net_of p.runner.graph) α fired (lying (contents after)) →
+        ((cost : Cost) (α : Arrivals) (fired : ℕ → ℕ) → Knows (net_of p.runner.graph) cost α fired p.ledger → InTurn (net_of p.runner.graph) cost α fired (lying (contents after)) →
         Lines (net_of p.runner.graph) cost α (names (map entry (vec_items p.tasks))) (lying (contents after)) bytes × Knows (net_of p.runner.graph) cost α (with_these fired (lying (contents after))) q.ledger) →
         Does places service steps p (tick claims) (Ok tt) bytes q
     tick_done p q claims after bytes tasks clear same_room reason d told = record {
@@ -230,12 +230,14 @@ module _ {R : Type 0} (places : R → ℕ) (service : R → ℕ → Service) (st
           let put : new ≡ lying (contents after) = ap (λ (rs : List Record). lying rs ++ new) (sym clear) ∙ tick_puts places steps p.runner p.records claims service shows q.runner after d x f.led.stands in
           let run' = subst (λ (m : Net). Run steps m first slots (done (tick claims) ∷ said) q.runner.rack y) (ap net_of d.its_graph) emptied.run in
           let ready : Ripe n (arrivals_of said) x.state d.grants = ripe places steps n sound first f.led.fits slots claims d.grants [] f.led.run run' in
-          let t = told _ _ f.ended f.knows (subst (λ rs. InTurn n (arrivals_of said) f.ended rs) put (all_in_turn n sound (arrivals_of said) x.state d.grants ready f.ended f.ended_are)) in
+          let cost = by_worst n (service first) in
+          let in_time : NoneLate n cost (arrivals_of said) x.state = none_late places service steps shows n sound first f.led.fits slots f.led.run in
+          let t = told _ _ f.ended f.knows (subst (λ rs. InTurn n cost (arrivals_of said) f.ended rs) put (all_in_turn n sound cost (arrivals_of said) x.state d.grants ready in_time f.ended f.ended_are)) in
           record {
             answers = none_against;
             whole = y;
             follows = follows_on first slots (done (tick claims) ∷ said) y q n (ap net_of d.its_graph) emptied (same_room ∙ d.same_room ∙ f.slots_are) refl
-                (with_these f.ended new) (all_counted n sound (arrivals_of said) x.state d.grants ready f.ended f.ended_are)
+                (with_these f.ended new) (all_counted n sound cost (arrivals_of said) x.state d.grants ready in_time f.ended f.ended_are)
                 (subst (λ (rs : List Finished). Knows n (by_worst n (service first)) (arrivals_of said) (with_these f.ended rs) q.ledger) (sym put) t.1);
             put = new;
             records = refl;

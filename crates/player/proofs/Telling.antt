@@ -1,12 +1,14 @@
 -- Lines of records, one after another.
-use Rattle.std.proofs.Common.{◌≡◌, ℕ, ◌+◌, ◌*◌, ◌^◌, ◌<◌, ◌≤◌, List, [], ◌∷◌, ◌++◌, length, Option, Ok, Err, Result, IsOk, Vec, vec_items, vec_len, vec_capacity, decimal, slice_index_or, sym, refl, ap, ◌∙◌, subst, arith, rules, append-nil, append_assoc, length-append, lit<}
+use Rattle.std.proofs.Common.{◌≡◌, ℕ, ◌+◌, ◌*◌, ◌^◌, ◌<◌, ◌≤◌, Bool, true, false, cond, inl, inr, leb, List, [], ◌∷◌, ◌++◌, length, Option, Ok, Err, Result, IsOk, Vec, vec_items, vec_len, vec_capacity, decimal, slice_index_or, sym, refl, ap, ◌∙◌, subst, arith, rules, append-nil, append_assoc, length-append, lit<}
 use Rattle.std.proofs.lemmas.List.{map-append}
 use Rattle.std.proofs.lemmas.Fmt.{length-decimal-le}
+use Rattle.servers.specs.Figures.{ceiling}
+use Rattle.servers.specs.Rounding.{le_or_lt}
 use Rattle.texts.specs.Puts.{Added, Puts}
 use Rattle.lexer.specs.Text.{line_of}
 use Rattle.belt.specs.Belts.{contents, room}
 use Rattle.flow.specs.Nets.{Net, Arrivals}
-use Rattle.flow.specs.Finish.{Cost}
+use Rattle.flow.specs.Finish.{Cost, Finish}
 use Rattle.finish.specs.Filling.{more}
 use Rattle.finish.specs.Ledgers.{Knows, TellsBound, Books}
 use Rattle.finish.specs.declared.ledger.Ledger.{Ledger}
@@ -14,7 +16,7 @@ use Rattle.runs.specs.States.{Finished}
 use Rattle.runner.specs.Records.{told, lying}
 use Rattle.runner.specs.declared.record.Record.{Record}
 use Rattle.texts.proofs.Chains.{both, len_added}
-use Rattle.player.specs.Lines.{record_line, Lines, none, more_of, with_these, InTurn, Told}
+use Rattle.player.specs.Lines.{record_line, Kept, Lines, none, more_of, with_these, InTime, InTurn, Told}
 
 -- some records have left the belt, and their lines are put
 pub record SoFar {Z : Type 0} (n : Net) (names : List (List ℕ)) (l : Ledger) (belt : List (Option Record)) (v : Vec ℕ Z) (l' : Ledger) (belt' : List (Option Record)) (w : Vec ℕ Z) : Type 0 where
@@ -25,8 +27,8 @@ pub record SoFar {Z : Type 0} (n : Net) (names : List (List ℕ)) (l : Ledger) (
   pub space : vec_len w + 76 * length (contents belt') ≤ vec_capacity w
   pub same_room : room belt' ≡ room belt
   pub lines :
-      (cost : Cost) (α : Arrivals) (fired : ℕ → ℕ) → Knows n cost α fired l → InTurn n α fired (lying (contents belt)) →
-      Lines n cost α names (lying gone) bytes × Knows n cost α (with_these fired (lying gone)) l' × InTurn n α (with_these fired (lying gone)) (lying (contents belt'))
+      (cost : Cost) (α : Arrivals) (fired : ℕ → ℕ) → Knows n cost α fired l → InTurn n cost α fired (lying (contents belt)) →
+      Lines n cost α names (lying gone) bytes × Knows n cost α (with_these fired (lying gone)) l' × InTurn n cost α (with_these fired (lying gone)) (lying (contents belt'))
 
 -- Lists of records are seen one by one.
 pub lying_append : (xs ys : List Record) → lying (xs ++ ys) ≡ lying xs ++ lying ys
@@ -35,6 +37,17 @@ lying_append xs ys = map-append told xs ys
 pub with_append : (fired : ℕ → ℕ) (xs ys : List Finished) → with_these fired (xs ++ ys) ≡ with_these (with_these fired xs) ys
 with_append fired [] ys = refl
 with_append fired (x ∷ xs) ys = with_append (more fired x.task) xs ys
+
+-- A record in time keeps what is told of its bound.
+pub kept_by : (n : Net) (cost : Cost) (α : Arrivals) (r : Finished) (bound : ℕ) → TellsBound n cost α r.task r.firing bound → InTime n cost α r → Kept r bound
+kept_by n cost α r bound tells in_time = elim (le_or_lt 256 r.firing) [ inl l ↦ inl (tells.late l) | inr l ↦ early (tells.early l) ]
+  where
+    early : (t : ℕ) × Finish n α cost r.task r.firing t × (bound ≡ cond (leb t ceiling) t 0) → Kept r bound
+    early e = go (leb e.0 ceiling) e.2
+      where
+        go : (b : Bool) → bound ≡ cond b e.0 0 → Kept r bound
+        go true q = inr (omega (arith, q, in_time e.0 e.1))
+        go false q = inl q
 
 -- A line is short.
 line_short :
@@ -112,13 +125,14 @@ module _ {Z : Type 0} (n : Net) (names : List (List ℕ)) (l : Ledger) (belt : L
           lines = λ cost α fired knows turns.
               let f = was.lines cost α fired knows turns in
               let fired' = with_these fired (lying was.gone) in
-              let t = subst (λ rs. InTurn n α fired' (lying rs)) next f.2 in
+              let t = subst (λ rs. InTurn n cost α fired' (lying rs)) next f.2 in
               let b = books t.0 cost α fired' f.1 t.2 in
+              let tells : TellsBound n cost α r.task r.firing bound = subst (λ i. TellsBound n cost α r.task i bound) (sym t.1) b.0 in
               let all : lying (was.gone ++ r ∷ []) ≡ lying was.gone ++ told r ∷ [] = lying_append was.gone (r ∷ []) in
               let ends : with_these fired (lying was.gone ++ told r ∷ []) ≡ more fired' r.task = with_append fired (lying was.gone) (told r ∷ []) in (
                 subst (λ rs. Lines n cost α names rs (was.bytes ++ record_line names (told r) bound)) (sym all)
-                    (more_of f.0 (told r) bound (subst (λ i. TellsBound n cost α r.task i bound) (sym t.1) b.0)),
+                    (more_of f.0 (told r) bound tells (kept_by n cost α (told r) bound tells t.3)),
                 subst (λ (rs : List Finished). Knows n cost α (with_these fired rs) l'') (sym all) (subst (λ (g : ℕ → ℕ). Knows n cost α g l'') (sym ends) b.1),
-                subst (λ (rs : List Finished). InTurn n α (with_these fired rs) (lying (contents belt''))) (sym all) (subst (λ (g : ℕ → ℕ). InTurn n α g (lying (contents belt''))) (sym ends) t.3),
+                subst (λ (rs : List Finished). InTurn n cost α (with_these fired rs) (lying (contents belt''))) (sym all) (subst (λ (g : ℕ → ℕ). InTurn n cost α g (lying (contents belt''))) (sym ends) t.4),
               );
         }

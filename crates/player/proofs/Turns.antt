@@ -4,9 +4,10 @@ use mathlib.Core.List.Memᴰ
 use mathlib.Core.List.{Memᴰ}
 use Rattle.std.proofs.lemmas.Bool.{cases_eq}
 use Rattle.std.proofs.lemmas.Bool.Decides.{nat_tests}
+use Rattle.servers.specs.Service.{Service}
 use Rattle.servers.specs.Rounding.{le_or_lt}
 use Rattle.flow.specs.Nets.{Net, Sound, Arrivals}
-use Rattle.flow.specs.Finish.{Feeds}
+use Rattle.flow.specs.Finish.{Cost, Feeds, Finish, by_worst}
 use Rattle.finish.specs.Filling.{more}
 use Rattle.finish.specs.Ledgers.{Due}
 use Rattle.runs.specs.States.{State, Finished, one, ends, put_out, ticked}
@@ -14,8 +15,10 @@ use Rattle.runs.specs.Runs.{Said, done, tick, arrivals_of, Whole, Run}
 use Rattle.runs.specs.Claims.{Ended, HadTokens}
 use Rattle.runs.proofs.Base.{out_now}
 use Rattle.runs.proofs.Order.{put_of}
+use Rattle.runs.proofs.Forget.{Shows, worsts, heard, steady, forget}
+use Rattle.runs.proofs.Kept.{on_time}
 use Rattle.runs.proofs.Early.{not_early, ended_counts}
-use Rattle.player.specs.Lines.{with_these, InTurn}
+use Rattle.player.specs.Lines.{with_these, InTime, InTurn}
 use Rattle.player.proofs.Telling.{with_append}
 
 -- What firing `fired v` of each task v that ends needs was there before.
@@ -41,15 +44,30 @@ module _ {R : Type 0} (places : R → ℕ) (steps : R → ℕ → Bool → Bool 
       was u j d l (inl k) = ended_counts steps n sound first slots before u j d k
       was u j d l (inr k) = absurd (omega (arith, (put_of n x.state grants n.tasks u j d k).3))
 
--- Some records, and then others.
-turns_append : (n : Net) (α : Arrivals) (fired : ℕ → ℕ) (xs ys : List Finished) → InTurn n α fired xs → InTurn n α (with_these fired xs) ys → InTurn n α fired (xs ++ ys)
-turns_append n α fired [] ys h k = k
-turns_append n α fired (x ∷ xs) ys h k = (h.0, h.1, h.2, turns_append n α (more fired x.task) xs ys h.3 k)
+-- The clock is below every bound of a task's next firing.
+abbrev pub NoneLate : Net → Cost → Arrivals → State → Type 0
+NoneLate n cost α s = (v t : ℕ) → v < n.tasks → Finish n α cost v (s.fired v) t → s.clock < t
 
-module _ (n : Net) (sound : Sound n) (α : Arrivals) (s : State) (grants : ℕ → Bool) (ready : Ripe n α s grants) (ended : ℕ → ℕ) (same : (v : ℕ) → v < n.tasks → ended v ≡ s.fired v) where
+-- So it is in every run, by the figures of the rack on which it began.
+pub none_late :
+    {R : Type 0} (places : R → ℕ) (service : R → ℕ → Service) (steps : R → ℕ → Bool → Bool → R → Type 0) → Shows places service steps → (n : Net) → Sound n → (first : R) → n.tasks ≤ places first → (slots : ℕ) →
+    {said : List Said} {a : R} {x : Whole} → Run steps n first slots said a x → NoneLate n (by_worst n (service first)) (arrivals_of said) x.state
+none_late places service steps shows n sound first fits slots {said} {a} {x} run v t h d = elim (le_or_lt t x.state.clock) [ inl l ↦ absurd (omega (arith, ended l)) | inr l ↦ l ]
+  where
+    ended : t ≤ x.state.clock → x.state.fired v < x.state.fired v
+    ended l =
+        let b = forget places service steps shows n first slots fits run (worsts service first) (λ u m k. (steady places service steps shows n first fits slots said a x run u k).worst m) in
+        (on_time n sound (worsts service first) b v (x.state.fired v) t h (subst (λ (α : Arrivals). Finish n α (by_worst n (service first)) v (x.state.fired v) t) (sym (heard run).1) d) l).0
+
+-- Some records, and then others.
+turns_append : (n : Net) (cost : Cost) (α : Arrivals) (fired : ℕ → ℕ) (xs ys : List Finished) → InTurn n cost α fired xs → InTurn n cost α (with_these fired xs) ys → InTurn n cost α fired (xs ++ ys)
+turns_append n cost α fired [] ys h k = k
+turns_append n cost α fired (x ∷ xs) ys h k = (h.0, h.1, h.2, h.3, turns_append n cost α (more fired x.task) xs ys h.4 k)
+
+module _ (n : Net) (sound : Sound n) (cost : Cost) (α : Arrivals) (s : State) (grants : ℕ → Bool) (ready : Ripe n α s grants) (in_time : NoneLate n cost α s) (ended : ℕ → ℕ) (same : (v : ℕ) → v < n.tasks → ended v ≡ s.fired v) where
   -- The records of the first k tasks, and how many firings ended with them.
   record Upto (k : ℕ) : Type 0 where
-    pub turns : InTurn n α ended (put_out n s grants k)
+    pub turns : InTurn n cost α ended (put_out n s grants k)
     pub counted : (v : ℕ) → v < n.tasks → v < k → with_these ended (put_out n s grants k) v ≡ s.fired v + one (ends n s grants v)
     pub still : (v : ℕ) → v < n.tasks → k ≤ v → with_these ended (put_out n s grants k) v ≡ s.fired v
 
@@ -83,13 +101,16 @@ module _ (n : Net) (sound : Sound n) (α : Arrivals) (s : State) (grants : ℕ �
         came = λ i. omega (arith, ready.came k there q i, now);
       }
 
+      soon : InTime n cost α r
+      soon t d = omega (arith, in_time k t there d)
+
       go : (b : Bool) → ends n s grants k ≡ b → Upto (suc k)
       go true e =
           let puts : put_out n s grants k ++ r ∷ [] ≡ put_out n s grants k ++ cond (ends n s grants k) (r ∷ []) [] = ap (λ b. put_out n s grants k ++ cond b (r ∷ []) []) (sym e) in
           let then : (v : ℕ) → with_these ended (put_out n s grants k ++ cond (ends n s grants k) (r ∷ []) []) v ≡ more before k v =
           λ v. ap (λ (rs : List Finished). with_these ended rs v) (sym puts) ∙ ap (λ (f : ℕ → ℕ). f v) (with_append ended (put_out n s grants k) (r ∷ [])) in
           record {
-            turns = subst (λ rs. InTurn n α ended rs) puts (turns_append n α ended (put_out n s grants k) (r ∷ []) old.turns (there, sym now, due e, tt));
+            turns = subst (λ rs. InTurn n cost α ended rs) puts (turns_append n cost α ended (put_out n s grants k) (r ∷ []) old.turns (there, sym now, due e, soon, tt));
             counted = λ v h l. then v ∙ elim (cases_eq v k) [ inl q ↦ here v q e | inr q ↦ there_before v q ∙ old.counted v h (omega arith) ];
             still = λ v h l. then v ∙ there_before v (λ q. omega arith) ∙ old.still v h (omega arith);
           }
@@ -104,7 +125,7 @@ module _ (n : Net) (sound : Sound n) (α : Arrivals) (s : State) (grants : ℕ �
           let then : (v : ℕ) → with_these ended (put_out n s grants k ++ cond (ends n s grants k) (r ∷ []) []) v ≡ before v =
           λ v. ap (λ (rs : List Finished). with_these ended rs v) (sym puts) in
           record {
-            turns = subst (λ rs. InTurn n α ended rs) puts old.turns;
+            turns = subst (λ rs. InTurn n cost α ended rs) puts old.turns;
             counted = λ v h l. then v ∙ elim (cases_eq v k) [ inl q ↦ idle v q e | inr q ↦ old.counted v h (omega arith) ];
             still = λ v h l. then v ∙ old.still v h (omega arith);
           }
@@ -116,7 +137,7 @@ module _ (n : Net) (sound : Sound n) (α : Arrivals) (s : State) (grants : ℕ �
   upto zero h = none_yet
   upto (suc k) h = one_more_task k (omega arith) (upto k (omega arith))
 
-  pub all_in_turn : InTurn n α ended (put_out n s grants n.tasks)
+  pub all_in_turn : InTurn n cost α ended (put_out n s grants n.tasks)
   all_in_turn = (upto n.tasks (omega arith)).turns
 
   pub all_counted : (v : ℕ) → v < n.tasks → with_these ended (put_out n s grants n.tasks) v ≡ (ticked n grants s).fired v
