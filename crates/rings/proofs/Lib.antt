@@ -2,3 +2,4 @@ mod Filled
 pub mod Asked
 mod Growing
 pub mod Walked
+mod Bests
