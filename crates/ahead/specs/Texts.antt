@@ -1,9 +1,10 @@
 -- How far a text of calls was read, and what a whole one gives.
-use Rattle.std.specs.Prelude.{◌≡◌, ℕ, ◌+◌, Bool, true, false, cond, not, ◌||◌, List, [], ◌∷◌, ◌++◌, map, length, ◌==◌, Ok, Err, Result, vec_items}
+use Rattle.std.specs.Prelude.{◌≡◌, ℕ, ◌+◌, Bool, true, false, cond, not, ◌||◌, List, [], ◌∷◌, ◌++◌, map, length, ◌==◌, Ok, Err, Result, vec_items, vec_len}
 use Rattle.std.specs.List.{AllByRecursion, flat_map, list_all}
 use Rattle.faults.specs.declared.fault.Fault as fault
 use Rattle.lexer.specs.Left.{counted}
 use Rattle.lexer.specs.Text.{lines}
+use Rattle.cells.specs.Checks.{Check, bad}
 use Rattle.ahead.specs.declared.ahead.Ahead.{Ahead}
 use Rattle.calls.specs.Written.{written}
 use Rattle.ahead.specs.declared.given.Given.{Given}
@@ -31,6 +32,10 @@ pub record Reads (t : List ℕ) (gs : List Given) (a : Ahead) : Type 0 where
   pub behind : unended (vec_items a.held) ≡ true
   pub number : a.number ≡ counted (1 + length told)
   pub give : AllGive 1 told gs a.is_over
+
+-- What is checked where a text ends of which so much was read: bytes that are held are a line without an end, and a text of no line lacks its heading. Below a refused line nothing is.
+abbrev pub end_checks : Ahead → List Check
+end_checks a = cond a.is_over [] (bad (not (vec_len a.held == 0)) 2 a.number 0 ∷ bad (a.number == 1) 3 1 0 ∷ [])
 
 -- The lines of a whole text; where it has no byte, its heading is missing.
 abbrev pub lines_of : List ℕ → List (List ℕ)

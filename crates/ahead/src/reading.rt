@@ -2,7 +2,8 @@ ghost use Rattle.std.specs.Prelude.{◌≡◌, ◌<◌, ◌≤◌, ◌+◌, ℕ,
 ghost use Rattle.belt.specs.Belts.{contents, room};
 ghost use Rattle.ahead.specs.Givens.{Gives};
 ghost use Rattle.ahead.specs.Steps.{Carried, Stops, TooLong};
-ghost use Rattle.ahead.specs.Texts.{one_line, ended, Reads, Whole};
+ghost use Rattle.cells.specs.Checks.{Meets};
+ghost use Rattle.ahead.specs.Texts.{one_line, ended, end_checks, Reads, Whole};
 ghost use Rattle.ahead.specs.declared.given.Given.{Given as AGiven};
 ghost use Rattle.ahead.specs.declared.given.Given.TheVariants.{Fault as AFault};
 
@@ -47,7 +48,8 @@ impl Ahead {
 
     /// The text has ended: bytes that are held are a line without an end, and a text of no line lacks its heading.
     pub fn end(&self) -> Result<(), Fault>
-        ensures { (t : List ℕ) (gs : List AGiven) → Reads t gs self.now → MatchResult result (λ _. Whole t gs) (λ f. Whole t (gs ++ AFault f ∷ [])) }
+        ensures value { Meets result (end_checks self.now) (λ _. Unit {0}) }
+        ensures whole { (t : List ℕ) (gs : List AGiven) → Reads t gs self.now → MatchResult result (λ _. Whole t gs) (λ f. Whole t (gs ++ AFault f ∷ [])) }
     {
         if self.is_over {
             return Ok(());

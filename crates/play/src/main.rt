@@ -1,6 +1,8 @@
 #![tactic(auto)]
 
+use ahead::ahead::Ahead;
 use graph::parts::MOST_TASKS;
+use reader::room::Room;
 use session::opening::{SheetRack, open};
 use session::session::Session;
 use std::alloc::{AllocError, Global};
@@ -13,6 +15,7 @@ const MOST_READ: u64 = 8193;
 
 // Of calls, as many bytes and lines as are read at once.
 const CHUNK: usize = 4096;
+
 const LINES: usize = 64;
 
 // The sheet's text; none where the file is missing or cannot be read.
@@ -28,8 +31,10 @@ fn sheet_text(rt: &HostRuntime, heap: Global) -> Result<Vec<u8>, AllocError> {
 
 // Writes what is in the buffer, and empties it.
 fn write_out(rt: &HostRuntime, out: &mut Vec<u8>) -> io::Result<()> {
-    rt.stdout().write_all(out)?;
-    out.clear();
+    if !out.is_empty() {
+        rt.stdout().write_all(out)?;
+        out.clear();
+    }
     Ok(())
 }
 
@@ -61,9 +66,10 @@ fn read_on(
         if rest.is_empty() || session.is_done() {
             break;
         }
-        let n = session.take(rest)?;
-        rest = rest.get(n..).unwrap_or_default();
+        let taken = session.take(rest);
+        // Where memory lacks for a line, those above it were read, and are still printed.
         work_off(rt, session, out)?;
+        rest = rest.get(taken?..).unwrap_or_default();
     }
     Ok(())
 }
@@ -100,7 +106,9 @@ fn main(rt: HostRuntime) -> io::Result<()> {
     let mut records = [None; MOST_TASKS];
     let mut given = [None; LINES];
     let mut out = Vec::with_capacity(heap, 2 * CHUNK)?;
-    let opened = open(&text, heap, &mut records, &mut given, &mut out)?;
+    let room = Room::new(heap)?;
+    let ahead = Ahead::new(heap)?;
+    let opened = open(&text, room, ahead, &mut records, &mut given, &mut out)?;
     write_out(&rt, &mut out)?;
     match opened {
         Some(mut session) => play(&rt, &mut session, &mut out),

@@ -1,7 +1,9 @@
 #![tactic(auto)]
 
+use ahead::ahead::Ahead;
 use graph::parts::MOST_TASKS;
 use lexer::lines::Lines;
+use reader::room::Room;
 use session::opening::{SheetRack, open};
 use session::session::Session;
 use std::alloc::{AllocError, Global};
@@ -10,6 +12,7 @@ use std::io::{Read, Write};
 
 // So many bytes of a case's calls are read at once, and so many lines lie on the belt: few, so that lines are cut and the belt fills.
 const CHUNK: usize = 7;
+
 const LINES: usize = 2;
 
 // A case stands in one line, the sheet and then the calls, with `|` between them and `/` for their line ends.
@@ -61,9 +64,9 @@ fn play(
             break;
         }
         let piece = rest.get(..CHUNK).unwrap_or(rest);
-        let n = session.take(piece)?;
-        rest = rest.get(n..).unwrap_or_default();
+        let taken = session.take(piece);
         work_off(session, out, all)?;
+        rest = rest.get(taken?..).unwrap_or_default();
     }
     session.end(out)?;
     all.extend_from_slice(out)?;
@@ -79,7 +82,9 @@ fn play_case(heap: Global, case: &[u8], all: &mut Vec<u8>) -> Result<(), AllocEr
     let mut records = [None; MOST_TASKS];
     let mut given = [None; LINES];
     let mut out = Vec::new(heap);
-    let opened = open(&sheet, heap, &mut records, &mut given, &mut out)?;
+    let room = Room::new(heap)?;
+    let ahead = Ahead::new(heap)?;
+    let opened = open(&sheet, room, ahead, &mut records, &mut given, &mut out)?;
     all.extend_from_slice(&out)?;
     out.clear();
     match opened {

@@ -1,5 +1,5 @@
 -- A step: what its call printed, and what is then left of the line.
-use Rattle.std.proofs.Common.{◌≡◌, ℕ, ◌+◌, ◌^◌, ◌<◌, ◌≤◌, Bool, List, [], ◌++◌, decimal, length, Ok, Err, Result, IsOk, Vec, vec_items, vec_len, vec_capacity, refl, sym, subst, ap, ◌∙◌, append-nil, length-append, lit<, lit≤, arith}
+use Rattle.std.proofs.Common.{◌≡◌, ℕ, ◌+◌, ◌-◌, ◌^◌, ◌<◌, ◌≤◌, Bool, List, [], ◌++◌, decimal, length, Ok, Err, Result, IsOk, Vec, vec_items, vec_len, vec_capacity, refl, sym, subst, ap, ◌∙◌, append-nil, length-append, lit<, lit≤, arith}
 use Rattle.std.proofs.lemmas.Fmt.{length-decimal-le}
 use Rattle.faults.specs.Faults.{fault_line}
 use Rattle.faults.specs.Numbers.{number_of}
@@ -13,7 +13,7 @@ use Rattle.servers.specs.Service.{Service}
 use Rattle.lexer.specs.Text.{end}
 use Rattle.texts.specs.Puts.{Added, Puts as BytesPut}
 use Rattle.runs.specs.Runs.{Call}
-use Rattle.player.specs.Works.{call_of, left_after}
+use Rattle.player.specs.Works.{call_of, left_after, call_room, calls_at_once}
 use Rattle.player.specs.Players.{Does, Puts, Appended, Starved, Many, no_call, then, Gone}
 use Rattle.player.specs.declared.player.Player.{Player}
 use Rattle.texts.proofs.Chains.{both}
@@ -67,7 +67,7 @@ pub record Roomy {Z : Type 0} (v u : Vec ℕ Z) : Type 0 where
   pub items : vec_items u ≡ vec_items v
   pub len : vec_len u ≡ vec_len v
   pub more : vec_capacity v ≤ vec_capacity u
-  pub space : vec_len u + 1216 ≤ vec_capacity u
+  pub space : vec_len u + call_room ≤ vec_capacity u
 
 added_from : {Z : Type 0} (v u w : Vec ℕ Z) (bytes : List ℕ) → Roomy v u → Added u bytes w → Added v bytes w
 added_from v u w bytes r a = record { items = a.items ∙ ap (λ (l : List ℕ). l ++ bytes) r.items; room = omega (arith, a.room, r.more) }
@@ -161,22 +161,29 @@ module _ {R : Type 0} (places : R → ℕ) (service : R → ℕ → Service) (st
       }
 
   -- No call yet, and one more.
-  pub gone_none : {Z : Type 0} (p : Player R) (v : Vec ℕ Z) → Gone places service steps p v p v
-  gone_none p v = record { bytes = []; added = record { items = sym (append-nil (vec_items v)); room = omega arith }; many = no_call }
+  pub gone_none : {Z : Type 0} (p : Player R) (v : Vec ℕ Z) (most : ℕ) → Gone places service steps p v most 0 p v
+  gone_none p v most = record { bytes = []; added = record { items = sym (append-nil (vec_items v)); room = omega arith }; many = no_call; few = omega arith }
 
-  pub gone_more : {Z : Type 0} (p q r : Player R) (v u w : Vec ℕ Z) → Gone places service steps p v q u → 0 < q.work.left → Appended places service steps q u r w → Gone places service steps p v r w
-  gone_more p q r v u w g busy a = record { bytes = g.bytes ++ a.bytes; added = both v g.bytes u a.bytes w g.added a.added; many = then g.many (a.busy (omega arith)) }
+  pub gone_more :
+      {Z : Type 0} (p q r : Player R) (v u w : Vec ℕ Z) (most n : ℕ) → Gone places service steps p v most n q u → n < calls_at_once → 0 < q.work.left → vec_len u < most → Appended places service steps q u r w →
+      Gone places service steps p v most (n + 1) r w
+  gone_more p q r v u w most n g fewer busy space a =
+      let len : length (vec_items u) ≡ length (vec_items v) + length g.bytes = ap length g.added.items ∙ length-append (vec_items v) g.bytes in
+      let short : length g.bytes < most - vec_len v = omega (arith, len, space, u.ok.0, v.ok.0) in
+      record { bytes = g.bytes ++ a.bytes; added = both v g.bytes u a.bytes w g.added a.added; many = then g.many short (a.busy (omega (arith, busy))); few = omega (arith, fewer) }
 
   -- Where memory lacks, the calls before that were made.
   pub gone_starved :
-      {Z : Type 0} (p q r : Player R) (v u w : Vec ℕ Z) (most : ℕ) → vec_len u < most → Gone places service steps p v q u → Starved q u r w →
-      Gone places service steps p v r w × (vec_len w < most) × (vec_capacity w < vec_len w + 1216)
-  gone_starved p q r v u w most room g s = (
+      {Z : Type 0} (p q r : Player R) (v u w : Vec ℕ Z) (most n : ℕ) → n < calls_at_once → vec_len u < most → Gone places service steps p v most n q u → Starved q u r w →
+      Gone places service steps p v most n r w × (n < calls_at_once) × (vec_len w < most) × (vec_capacity w < vec_len w + call_room)
+  gone_starved p q r v u w most n fewer room g s = (
     record {
       bytes = g.bytes;
       added = record { items = s.items ∙ g.added.items; room = omega (arith, g.added.room, s.room) };
-      many = subst (λ (t : Player R). Many places service steps p g.bytes t) (sym s.same) g.many;
+      many = subst (λ (t : Player R). Many places service steps p (most - vec_len v) n g.bytes t) (sym s.same) g.many;
+      few = g.few;
     },
+    fewer,
     omega (arith, room, ap length s.items, u.ok.0, w.ok.0),
     omega (arith, s.short, s.room, ap length s.items, u.ok.0, w.ok.0),
   )

@@ -1,5 +1,5 @@
 -- How a player stands for a run, and what its calls say and print.
-use Rattle.std.specs.Prelude.{◌≡◌, ℕ, ◌+◌, ◌<◌, ◌≤◌, ◌⊎◌, Bool, List, [], ◌∷◌, ◌++◌, map, Ok, Err, IsErr, Result, Vec, vec_items, vec_len, vec_capacity}
+use Rattle.std.specs.Prelude.{◌≡◌, ℕ, ◌+◌, ◌-◌, ◌<◌, ◌≤◌, ◌⊎◌, Bool, List, [], ◌∷◌, ◌++◌, length, map, Ok, Err, IsErr, Result, Vec, vec_items, vec_len, vec_capacity}
 use Rattle.std.specs.declared.alloc.AllocError.{AllocError}
 use Rattle.faults.specs.Faults.{fault_line}
 use Rattle.faults.specs.declared.fault.Fault.{Fault}
@@ -16,7 +16,7 @@ use Rattle.runs.specs.States.{Finished}
 use Rattle.runs.specs.Runs.{Call, Said, arrivals_of, Whole, why}
 use Rattle.runner.specs.Runners.{Led, Answers, said_of}
 use Rattle.player.specs.Lines.{Lines}
-use Rattle.player.specs.Works.{call_of, left_after}
+use Rattle.player.specs.Works.{call_of, left_after, call_room, calls_at_once}
 use Rattle.player.specs.declared.player.Player.{Player}
 
 -- Where no memory is to be had, which a buffer with room for one call never wants, player and buffer are as they were.
@@ -24,7 +24,7 @@ pub record Starved {R Z : Type 0} (p : Player R) (v : Vec ℕ Z) (q : Player R) 
   pub same : q ≡ p
   pub items : vec_items w ≡ vec_items v
   pub room : vec_capacity w ≡ vec_capacity v
-  pub short : vec_capacity v < vec_len v + 1216
+  pub short : vec_capacity v < vec_len v + call_room
 
 -- The lines of the records that a call put; a refused call puts none.
 abbrev pub Prints : Net → Cost → Arrivals → List (List ℕ) → Result Unit Fault → List Finished → List ℕ → Type 0
@@ -88,18 +88,19 @@ module _ {R : Type 0} (places : R → ℕ) (service : R → ℕ → Service) (st
   Stepped p v (Ok _) q w = Appended p v q w
   Stepped p v (Err _) q w = Starved p v q w
 
-  -- Some calls of the line under way, one after another, and what they print.
-  pub data Many (p : Player R) : List ℕ → Player R → Type 0 where
-    no_call : Many p [] p
-    then : {bytes more : List ℕ} {q r : Player R} → Many p bytes q → Steps q more r → Many p (bytes ++ more) r
+  -- So many calls of the line under way, one after another, and what they print. Each was made where those before had printed less than there is space for.
+  pub data Many (p : Player R) (space : ℕ) : ℕ → List ℕ → Player R → Type 0 where
+    no_call : Many p space 0 [] p
+    then : {n : ℕ} {bytes more : List ℕ} {q r : Player R} → Many p space n bytes q → length bytes < space → Steps q more r → Many p space (n + 1) (bytes ++ more) r
 
-  -- So many calls were made, and what they print is appended.
-  pub record Gone {Z : Type 0} (p : Player R) (v : Vec ℕ Z) (q : Player R) (w : Vec ℕ Z) : Type 0 where
+  -- So many calls were made, each with fewer than `most` bytes in the buffer, and what they print is appended.
+  pub record Gone {Z : Type 0} (p : Player R) (v : Vec ℕ Z) (most n : ℕ) (q : Player R) (w : Vec ℕ Z) : Type 0 where
     pub bytes : List ℕ
     pub added : Added v bytes w
-    pub many : Many p bytes q
+    pub many : Many p (most - vec_len v) n bytes q
+    pub few : n ≤ calls_at_once
 
-  -- The line is done, or so many bytes are in the buffer; or memory lacks for one more call before either.
-  abbrev pub Went : {Z : Type 0} → Player R → Vec ℕ Z → ℕ → Result Unit AllocError → Player R → Vec ℕ Z → Type 0
-  Went p v most (Ok _) q w = Gone p v q w × ((q.work.left ≡ 0) ⊎ (most ≤ vec_len w))
-  Went p v most (Err _) q w = Gone p v q w × (vec_len w < most) × (vec_capacity w < vec_len w + 1216)
+  -- The line is done, or so many bytes are in the buffer, or as many calls were made as are at once; or memory lacks for one more call before any of these.
+  abbrev pub Went : {Z : Type 0} → Player R → Vec ℕ Z → ℕ → Result ℕ AllocError → Player R → Vec ℕ Z → Type 0
+  Went p v most (Ok n) q w = Gone p v most n q w × ((q.work.left ≡ 0) ⊎ ((most ≤ vec_len w) ⊎ (n ≡ calls_at_once)))
+  Went p v most (Err _) q w = (n : ℕ) × Gone p v most n q w × (n < calls_at_once) × (vec_len w < most) × (vec_capacity w < vec_len w + call_room)

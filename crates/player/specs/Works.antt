@@ -10,6 +10,14 @@ use Rattle.player.specs.declared.work.Ask.{Ask}
 use Rattle.player.specs.declared.work.Ask.TheVariants.{Arrive, Need, Tick}
 use Rattle.player.specs.declared.work.Work.{Work}
 
+-- Room for what one call prints.
+abbrev pub call_room : ℕ
+call_room = 1216
+
+-- So many calls of a line are made at once.
+abbrev pub calls_at_once : ℕ
+calls_at_once = 65536
+
 -- Of so many tasks: in a tick each of their places has the same claim.
 abbrev pub call_of : ℕ → Ask → Call
 call_of tasks (Arrive v) = arrive v

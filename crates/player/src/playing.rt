@@ -12,10 +12,13 @@ use texts::fault::put_fault;
 /// Room for what one call prints: the line of a record of each task, or of a refusal.
 pub const ROOM: usize = MOST_TASKS * LONGEST_LINE;
 
+/// So many calls are made at once: few enough that what they print shows within milliseconds.
+pub const CALLS: u64 = 65_536;
+
 impl<'b, R: Rack> Player<'b, R> {
     ghost use Rattle.runs.specs.Runs.{arrive as arrival, need as need_of, tick as tick_with};
     ghost use Rattle.texts.specs.Puts.{Added};
-    ghost use Rattle.player.specs.Works.{call_of};
+    ghost use Rattle.player.specs.Works.{call_of, call_room};
     ghost use Rattle.player.specs.Players.{Does, Puts, Stepped, Went};
 
     // An arrival at the task, which the ledger knows too.
@@ -38,7 +41,7 @@ impl<'b, R: Rack> Player<'b, R> {
 
     // A tick with the same claim at every place, and the lines of the firings that end by it.
     fn tick(&mut self, claimed: bool, out: &mut Vec<u8>) -> Result<(), Fault>
-        requires room { vec_len out.old + 1216 ≤ vec_capacity out.old }
+        requires room { vec_len out.old + call_room ≤ vec_capacity out.old }
         ensures does { Puts R.Rack.places R.Rack.service R.Rack.steps self.old (tick_with (replicate (vec_len self.old.runner.graph.tasks) claimed)) result out.old self.new out.new }
         ensures work { self.new.work ≡ self.old.work }
     {
@@ -58,7 +61,7 @@ impl<'b, R: Rack> Player<'b, R> {
 
     // The call of the line under way, made once.
     fn call(&mut self, out: &mut Vec<u8>) -> Result<(), Fault>
-        requires room { vec_len out.old + 1216 ≤ vec_capacity out.old }
+        requires room { vec_len out.old + call_room ≤ vec_capacity out.old }
         ensures does { Puts R.Rack.places R.Rack.service R.Rack.steps self.old (call_of (vec_len self.old.runner.graph.tasks) self.old.work.ask) result out.old self.new out.new }
         ensures work { self.new.work ≡ self.old.work }
     {
@@ -88,14 +91,16 @@ impl<'b, R: Rack> Player<'b, R> {
         Ok(())
     }
 
-    /// Makes calls of the line under way, until it is done or so many bytes are in the buffer.
+    /// Makes calls of the line under way, until it is done, or so many bytes are in the buffer, or as many calls are made as are at once. Answers how many were made.
     /// Where the buffer lacks room and no memory is to be had, the calls before that were made.
-    pub fn go(&mut self, out: &mut Vec<u8>, most: usize) -> Result<(), AllocError>
+    pub fn go(&mut self, out: &mut Vec<u8>, most: usize) -> Result<u64, AllocError>
         ensures { Went R.Rack.places R.Rack.service R.Rack.steps self.old out.old most result self.new out.new }
     {
-        while self.work.left > 0 && out.len() < most {
+        let mut calls = 0;
+        while self.work.left > 0 && calls < CALLS && out.len() < most {
             self.step(out)?;
+            calls += 1;
         }
-        Ok(())
+        Ok(calls)
     }
 }

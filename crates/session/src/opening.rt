@@ -15,7 +15,7 @@ use reader::room::Room;
 use rows::Row;
 use runner::record::Record;
 use sheets::sheet::Sheet;
-use std::alloc::{AllocError, Global};
+use std::alloc::AllocError;
 use texts::fault::put_fault;
 use texts::put;
 
@@ -23,19 +23,18 @@ use texts::put;
 pub type SheetRack = Row<Stack<AnyKind>>;
 
 /// Begins a session of a sheet's text, and appends the heading of what it prints. Of a text that is refused the refusal is all, and there is no session.
-/// The records of a tick, and lines of calls that were read, lie in the slots that are lent. Where no memory is to be had, the buffer is left as it was.
+/// The records of a tick, and lines of calls that were read, lie in the slots that are lent. Where the buffer lacks room and no memory is to be had, it is left as it was.
 pub fn open<'b, 'c>(
     text: &[u8],
-    heap: Global,
+    room: Room,
+    ahead: Ahead,
     records: &'b mut [Option<Record>],
     given: &'c mut [Option<Given>],
     out: &mut Vec<u8>,
 ) -> Result<Option<Session<'b, 'c, SheetRack>>, AllocError>
-    ensures { Opens text.now (length records.old) out.old result out.new }
+    ensures { Opens text.now ahead (length records.old) (length given.old) out.old result out.new }
 {
     out.reserve(ROOM)?;
-    let room = Room::new(heap)?;
-    let ahead = Ahead::new(heap)?;
     match read(text, room) {
         Ok(Sheet { tasks, graph, rack }) => {
             let player = Player::new(tasks, graph, rack, records).unwrap();

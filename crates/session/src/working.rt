@@ -2,7 +2,7 @@ ghost use Rattle.std.specs.Prelude.{◌≡◌, ◌+◌, ◌<◌, ◌≤◌, ◌�
 
 use crate::session::Session;
 use ahead::given::Given;
-use player::playing::ROOM;
+use player::playing::{CALLS, ROOM};
 use racks::rack::Rack;
 use std::alloc::AllocError;
 use texts::fault::put_fault;
@@ -12,7 +12,8 @@ pub const FULL: usize = 4096;
 
 impl<R: Rack> Session<'_, '_, R> {
     ghost use Rattle.ahead.specs.Steps.{Stops, TooLong};
-    ghost use Rattle.session.specs.Sessions.{Reads, Works, Worked, Idle, Done, Finishes, Ends};
+    ghost use Rattle.player.specs.Works.{call_room};
+    ghost use Rattle.session.specs.Sessions.{full, Reads, Works, Worked, Idle, Done, Finishes, Ends};
 
     /// Whether something that was read is still to be worked off.
     pub fn is_busy(&self) -> bool
@@ -38,34 +39,37 @@ impl<R: Rack> Session<'_, '_, R> {
         self.ahead.take(bytes, &mut self.given)
     }
 
-    // One line that was read, where none is under way.
-    fn work_off(&mut self, given: Given, out: &mut Vec<u8>)
+    // One line that was read, where none is under way. Answers how many calls were made.
+    fn work_off(&mut self, given: Given, out: &mut Vec<u8>) -> u64
         requires idle { self.old.player.work.left ≡ 0 }
-        requires few { vec_len out.old < 4096 }
-        requires room { 5312 ≤ vec_capacity out.old }
-        ensures { Worked R.Rack.places R.Rack.service R.Rack.steps self.old given out.old self.new out.new }
+        requires few { vec_len out.old < full }
+        requires room { full + call_room ≤ vec_capacity out.old }
+        ensures { Worked R.Rack.places R.Rack.service R.Rack.steps self.old given out.old result self.new out.new }
     {
         match given {
             Given::Call(line) => {
                 self.player.begin(line, out).unwrap();
-                self.player.go(out, FULL).unwrap();
+                self.player.go(out, FULL).unwrap()
             }
-            Given::Fault(fault) => put_fault(out, fault).unwrap(),
+            Given::Fault(fault) => {
+                put_fault(out, fault).unwrap();
+                0
+            }
         }
     }
 
-    /// Works off what was read, until nothing of it is left, or so many bytes are in the buffer as are to be written at once.
+    /// Works off what was read, until nothing of it is left, or as many bytes are in the buffer as are to be written at once, or as many calls are made as are at once.
     /// Where the buffer lacks room and no memory is to be had, all is left as it was.
     pub fn go(&mut self, out: &mut Vec<u8>) -> Result<(), AllocError>
         ensures { Works R.Rack.places R.Rack.service R.Rack.steps self.old out.old result self.new out.new }
     {
         out.reserve(FULL + ROOM)?;
-        self.player.go(out, FULL).unwrap();
-        while out.len() < FULL {
+        let mut calls = self.player.go(out, FULL).unwrap();
+        while out.len() < FULL && calls < CALLS {
             let Some(given) = self.given.take() else {
                 break;
             };
-            self.work_off(given, out);
+            calls += self.work_off(given, out);
         }
         Ok(())
     }

@@ -1,5 +1,5 @@
 -- A sheet's session, or the refusal of the text.
-use Rattle.std.proofs.Common.{◌^◌, ◌<◌, ◌++◌, length, [], ap, ◌∙◌, subst, sym, arith, rules}
+use Rattle.std.proofs.Common.{◌^◌, ◌<◌, ◌++◌, length, [], ap, ◌∙◌, subst, sym, refl, arith, rules}
 use Rattle.ahead.specs.Texts.{Reads}
 use Rattle.texts.specs.Puts.{Puts}
 use Rattle.player.specs.Openings.{Opens}
@@ -18,13 +18,15 @@ unwrap-requires-in-Err c =
 pub returns-in-Ok : goal.returns-in-Ok
 returns-in-Ok c =
     let s = c.in-Ok.field-0 in
-    let p = subst (λ r. Opens sheet_places sheet_service sheet_steps s.tasks s.graph s.rack (length c.args.records.now) r) c.unwrap-player.ensures c.new-in-Ok.ensures in
+    let p = subst (λ r. Opens sheet_places sheet_service sheet_steps s.tasks s.graph s.rack (length c.args.records.now) r) c.unwrap-player.ensures c.new.ensures in
     let put = subst (λ r. Puts c.reserve.new.self heading r c.put.new.out) c.unwrap.ensures c.put.ensures in (
       record {
         sheet = s;
         accepted = c.in-Ok.ensures.reads.says;
         starts = p.1;
-        plays = record { gs = []; reads = subst (λ gs. Reads [] gs c.in_ok-ahead.ahead) (sym c.new-given.ensures.empty) c.in_ok-ahead.ensures.reads; played = nothing };
+        given = c.new-given.ensures.room;
+        ahead = refl;
+        plays = λ h. record { gs = []; reads = subst (λ gs. Reads [] gs c.args.ahead) (sym c.new-given.ensures.empty) h; played = nothing };
       },
       record { items = put.items ∙ ap (λ l. l ++ heading) c.reserve.ensures.items; room = omega (arith, put.room, c.reserve.ensures.capacity) },
     )

@@ -17,7 +17,7 @@ returns-in-Err g c =
     let line : c.in-Err.fault.line < 2 ^ 32 = search rules in
     let field : c.in-Err.fault.field < 2 ^ 32 = search rules in
     let put = refusal_put c.in-Err.fault c.args.out.now c.reserve.new.self c.put_fault.new.out c.put_fault.result roomy line field c.put_fault.ensures in
-    closes_refused g.R.Rack.places g.R.Rack.service g.R.Rack.steps c.args.self.now c.in-Err.fault c.args.out.now c.put_fault.new.out put.1 c.in-Err.ensures
+    closes_refused g.R.Rack.places g.R.Rack.service g.R.Rack.steps c.args.self.now c.in-Err.fault c.args.out.now c.put_fault.new.out put.1 c.in-Err.ensures.value c.in-Err.ensures.whole
 
 pub returns-in_default : goal.returns-in_default
-returns-in_default g c = closes_so g.R.Rack.places g.R.Rack.service g.R.Rack.steps c.args.self.now c.args.out.now c.reserve.new.self c.reserve.ensures.items c.reserve.ensures.capacity c.in_default.ensures
+returns-in_default g c = closes_so g.R.Rack.places g.R.Rack.service g.R.Rack.steps c.args.self.now c.args.out.now c.reserve.new.self c.reserve.ensures.items c.reserve.ensures.capacity c.in_default.ensures.value.0 c.in_default.ensures.whole

@@ -3,6 +3,7 @@ use Rattle.std.proofs.Common.{◌^◌, ◌<◌, refl, subst, arith, rules}
 use Rattle.player.specs.Openings.{Begins}
 use Rattle.player.specs.Players.{Went}
 use Rattle.player.proofs.Stepping.{Roomy, refusal_put}
+use Rattle.session.specs.Sessions.{full}
 use Rattle.session.proofs.Playing.{worked_call, worked_fault}
 use Rattle.session.proofs.session.Session.work_off.Goals as goal
 
@@ -15,9 +16,9 @@ unwrap-requires-in-Fault g c =
 
 pub returns-in-Call : goal.returns-in-Call
 returns-in-Call g c =
-    worked_call g.R.Rack.places g.R.Rack.service g.R.Rack.steps c.args.self.now c.args.given c.in-Call.line c.begin.new.self c.go.new.self c.args.out.now c.begin.new.out c.go.new.out c.in-Call.is c.requires.idle
+    worked_call g.R.Rack.places g.R.Rack.service g.R.Rack.steps c.args.self.now c.args.given c.in-Call.line c.begin.new.self c.go.new.self c.args.out.now c.begin.new.out c.go.new.out _ c.in-Call.is c.requires.idle
     (subst (λ r. Begins c.args.self.now.player c.in-Call.line c.args.out.now r c.begin.new.self c.begin.new.out) c.unwrap.ensures c.begin.ensures)
-    (subst (λ r. Went g.R.Rack.places g.R.Rack.service g.R.Rack.steps c.begin.new.self c.begin.new.out 4096 r c.go.new.self c.go.new.out) c.unwrap-in-Call.ensures c.go.ensures)
+    (subst (λ r. Went g.R.Rack.places g.R.Rack.service g.R.Rack.steps c.begin.new.self c.begin.new.out full r c.go.new.self c.go.new.out) c.unwrap-in-Call.ensures c.go.ensures)
 
 pub returns-in-Fault : goal.returns-in-Fault
 returns-in-Fault g c =
