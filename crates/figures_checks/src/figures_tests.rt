@@ -125,6 +125,46 @@ fn six_tasks(rt: HostRuntime) -> Result<(), Fail> {
     Ok(())
 }
 
+// So many rings are found one above the other that the search narrows the ratio.
+#[test]
+fn a_long_search(rt: HostRuntime) -> Result<(), Fail> {
+    let times = [65_535, 5_412, 65_535, 65_535, 58_074, 1, 100, 50_969];
+    let edges = [
+        (0, 2, 0),
+        (3, 5, 0),
+        (3, 2, 1),
+        (1, 3, 0),
+        (7, 3, 1),
+        (2, 3, 1),
+        (7, 1, 1),
+        (4, 7, 0),
+        (5, 2, 1),
+        (6, 2, 1),
+        (5, 6, 0),
+        (2, 4, 0),
+        (4, 1, 1),
+        (3, 0, 2),
+        (3, 6, 0),
+        (6, 7, 0),
+    ];
+    let found = on_own(rt.alloc(), 122_812, &times, &edges)?;
+    assert_eq!(rt; (found.ratio.cycle, found.ratio.parts), (122_813, 1));
+    assert_eq!(rt; (found.margin, found.verdict), (-1, Verdict::Late));
+    assert_eq!(rt;
+        &found.starts[..8],
+        [
+            65_535, 122_712, 131_070, 188_247, 189_144, 188_248, 188_348, 240_113
+        ]
+        .as_slice()
+    );
+    assert_eq!(rt;
+        &found.loads[..8],
+        [534, 44, 534, 534, 473, 0, 1, 415].as_slice()
+    );
+    assert_eq!(rt; found.critical.as_slice(), [1, 3, 5, 6, 2, 4, 7].as_slice());
+    Ok(())
+}
+
 // The edges stand so that the search walks the ring from its last task down.
 #[test]
 fn told_along_the_edges(rt: HostRuntime) -> Result<(), Fail> {
