@@ -94,7 +94,7 @@ fn tokens(graph: &Graph, walk: &Walk) -> u64
     sum
 }
 
-/// One search at cycle over parts, and what the ring takes that it may have found.
+/// One search at a ratio: the start figures there, or a ring above it with its own ratio.
 fn try_at(graph: &Graph, weights: &Weights, ratio: Ratio) -> Tried
     requires told { Told graph.now weights.now.spans }
     ensures { (service : ℕ → Service) → Spans graph.now service weights.now.spans → Tells (net_of graph.now) service ratio.cycle ratio.parts result }
@@ -108,7 +108,7 @@ fn try_at(graph: &Graph, weights: &Weights, ratio: Ratio) -> Tried
     }
 }
 
-/// Halves what lies between the best ratio and most over parts, until no more than one of the parts is left: a ring above the middle is the best one then, and where there are start figures no ring is above.
+/// Halves what lies between the best ratio and `most` over `parts`, until no more than one of the parts is left: a ring above the middle is the best one then, and start figures there show that none is above.
 fn halve(graph: &Graph, weights: &Weights, from: Best, parts: u64, most: u64) -> Best
     requires told { Told graph.now weights.now.spans }
     requires some { 1 ≤ parts }
@@ -134,7 +134,7 @@ fn halve(graph: &Graph, weights: &Weights, from: Best, parts: u64, most: u64) ->
     best
 }
 
-/// Brings the best ring so near to the largest ratio that few ratios of rings are left between them: within a tick, and then within one of as many parts as a ring near that ratio may have tokens, since all of it weighs at most `MOST_WEIGHT`.
+/// Brings the best ring so near to the largest ratio that few are left between them: within a tick, then within a tick over about as many parts as a ring of such a ratio may have tokens, which weighs at most `MOST_WEIGHT`.
 fn narrow(graph: &Graph, weights: &Weights, from: Best) -> Best
     requires told { Told graph.now weights.now.spans }
     requires kept { Kept graph.now weights.now from }
