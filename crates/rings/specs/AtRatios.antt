@@ -1,4 +1,4 @@
--- What there is at cycle over parts: start figures, or a ring above it.
+-- What there is at cycle over parts: start figures, or a ring of edges above it.
 use Rattle.std.specs.Prelude.{ℕ, ◌*◌, ◌<◌, ◌≤◌, List, map, slice_index, Result, MatchResult}
 use Rattle.faults.specs.declared.fault.Fault.{Fault}
 use Rattle.servers.specs.Service.{Service}
@@ -16,7 +16,7 @@ pub record Above (n : Net) (service : ℕ → Service) (cycle parts : ℕ) (edge
   pub ring : Ring n (map edge edges)
   pub above : cycle * tokens_on n (map edge edges) < parts * weight n service (map edge edges)
 
--- The start figures at cycle over parts, or a ring above it.
+-- The least numbers that meet the start inequalities at cycle over parts, or a ring of edges above it. Links are not asked.
 abbrev pub Finds : Net → (ℕ → Service) → ℕ → ℕ → AtRatio → Type 0
 Finds n service cycle parts (Starts starts) = rings.Starts n service cycle parts (λ v. slice_index starts v)
 Finds n service cycle parts (Slower walk) = (walk.count ≤ 16) × Above n service cycle parts (arcs_of walk)

@@ -14,7 +14,7 @@ use ratios::ratio::Ratio;
 use walks::arcs::Arcs;
 use walks::found::{Found, Walk};
 
-/// What there is at cycle over parts: the start figure of each task, or the edges of a ring that has more ticks per token.
+/// What there is at cycle over parts: the least numbers that meet the start inequalities, or the edges of a ring that has more ticks per token. Links of tasks to themselves are not asked.
 #[derive(Clone, Copy, PartialEq, Eq, Debug)]
 pub enum AtRatio {
     Starts([u64; MOST_TASKS]),
@@ -35,7 +35,7 @@ pub(crate) fn search(graph: &Graph, spans: &[u64; MOST_TASKS], ratio: Ratio) -> 
     }
 }
 
-/// The start figures of the tasks at cycle over parts, or a ring that has more ticks per token; refused where the rack is.
+/// The least numbers that meet the start inequalities at cycle over parts, or a ring of edges that has more ticks per token; refused where the rack is. A task's link to itself may be slower all the same.
 pub fn at_ratio<R: Rack>(graph: &Graph, rack: &R, ratio: Ratio) -> Result<AtRatio, Fault>
     ensures { AnswersAt graph.now (R.Rack.places rack.now) (R.Rack.service rack.now) ratio.cycle ratio.parts result }
 {
