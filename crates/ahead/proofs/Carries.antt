@@ -3,6 +3,7 @@ use Rattle.std.proofs.Common.{◌≡◌, ℕ, ◌+◌, ◌<◌, ◌≤◌, true,
 use Rattle.std.proofs.lemmas.List.{append-nil, take_all, length-drop, length-append}
 use Rattle.std.proofs.lemmas.Bool.{false≢true}
 use Rattle.std.proofs.Math.Seq.{take-add, take-append_seam}
+use Rattle.belt.specs.Turned.{Ring}
 use Rattle.belt.specs.Belts.{contents, room, Put}
 use Rattle.belt.specs.declared.returned.Returned.{Returned}
 use Rattle.ahead.specs.declared.ahead.Ahead.{Ahead}
@@ -26,12 +27,12 @@ where_no_ok P (Ok x) e q = absurd (false≢true e)
 where_no_ok P (Err y) e q = q
 
 -- a put where a slot is free
-pub put_free : (b : List (Option Given)) (g : Given) (r : Result Unit (Returned Given)) (e : List (Option Given)) → Put b g r e → length (contents b) < room b → (contents e ≡ contents b ++ g ∷ []) × (room e ≡ room b)
+pub put_free : (b : Ring Given) (g : Given) (r : Result Unit (Returned Given)) (e : Ring Given) → Put b g r e → length (contents b) < room b → (contents e ≡ contents b ++ g ∷ []) × (room e ≡ room b)
 put_free b g (Ok u) e p free = (p.1, p.2)
 put_free b g (Err x) e p free = absurd (let full = p.0 in omega arith)
 
 -- nothing was read
-pub carried_none : (a d : Ahead) (b : List (Option Given)) (bytes : List ℕ) → vec_items d.held ≡ vec_items a.held → d.number ≡ a.number → d.is_over ≡ a.is_over → vec_capacity a.held ≤ vec_capacity d.held → Carried a b bytes 0 d b
+pub carried_none : (a d : Ahead) (b : Ring Given) (bytes : List ℕ) → vec_items d.held ≡ vec_items a.held → d.number ≡ a.number → d.is_over ≡ a.is_over → vec_capacity a.held ≤ vec_capacity d.held → Carried a b bytes 0 d b
 carried_none a d b bytes h n f c = record {
   few = omega arith;
   put = [];
@@ -43,7 +44,7 @@ carried_none a d b bytes h n f c = record {
 }
 
 -- bytes of a line that goes on
-pub carried_on : (a d : Ahead) (b : List (Option Given)) (p : List ℕ) → 0 < length p → unended p ≡ true → vec_items d.held ≡ vec_items a.held ++ p → d.number ≡ a.number → d.is_over ≡ a.is_over → vec_capacity a.held ≤ vec_capacity d.held → Carried a b p (length p) d b
+pub carried_on : (a d : Ahead) (b : Ring Given) (p : List ℕ) → 0 < length p → unended p ≡ true → vec_items d.held ≡ vec_items a.held ++ p → d.number ≡ a.number → d.is_over ≡ a.is_over → vec_capacity a.held ≤ vec_capacity d.held → Carried a b p (length p) d b
 carried_on a d b p some u h n f c = record {
   few = omega arith;
   put = [];
@@ -55,7 +56,7 @@ carried_on a d b p some u h n f c = record {
 }
 
 -- bytes that end a line
-pub carried_end : (a d : Ahead) (b e : List (Option Given)) (p : List ℕ) (o : Option Given) → 0 < length p → a.is_over ≡ false → ended p ≡ true → Ends a p o d → contents e ≡ contents b ++ given o → room e ≡ room b → vec_capacity a.held ≤ vec_capacity d.held → Carried a b p (length p) d e
+pub carried_end : (a d : Ahead) (b e : Ring Given) (p : List ℕ) (o : Option Given) → 0 < length p → a.is_over ≡ false → ended p ≡ true → Ends a p o d → contents e ≡ contents b ++ given o → room e ≡ room b → vec_capacity a.held ≤ vec_capacity d.held → Carried a b p (length p) d e
 carried_end a d b e p o some f w k put same c = record {
   few = omega arith;
   put = given o;
@@ -67,7 +68,7 @@ carried_end a d b e p o some f w k put same c = record {
 }
 
 -- m bytes more
-pub carried_more : (a d x : Ahead) (b e y : List (Option Given)) (bytes p : List ℕ) (n m : ℕ) → Carried a b bytes n d e → n + m ≤ length bytes → take m p ≡ take m (drop n bytes) → Carried d e p m x y → Carried a b bytes (n + m) x y
+pub carried_more : (a d x : Ahead) (b e y : Ring Given) (bytes p : List ℕ) (n m : ℕ) → Carried a b bytes n d e → n + m ≤ length bytes → take m p ≡ take m (drop n bytes) → Carried d e p m x y → Carried a b bytes (n + m) x y
 carried_more a d x b e y bytes p n m k fits same j = record {
   few = fits;
   put = k.put ++ j.put;
@@ -86,14 +87,14 @@ carried_more a d x b e y bytes p n m k fits same j = record {
 }
 
 -- and none
-pub carried_no_more : (a d x : Ahead) (b e y : List (Option Given)) (bytes p : List ℕ) (n : ℕ) → Carried a b bytes n d e → Carried d e p 0 x y → Carried a b bytes n x y
+pub carried_no_more : (a d x : Ahead) (b e y : Ring Given) (bytes p : List ℕ) (n : ℕ) → Carried a b bytes n d e → Carried d e p 0 x y → Carried a b bytes n x y
 carried_no_more a d x b e y bytes p n k j =
     let few = k.few in
     let still : n + 0 ≡ n = omega arith in
     subst (λ m. Carried a b bytes m x y) still (carried_more a d x b e y bytes p n 0 k (omega arith) refl j)
 
 -- the first line of the bytes that are left
-pub carried_line : (a d x : Ahead) (b e y : List (Option Given)) (bytes p : List ℕ) (ls : List (List ℕ)) (n : ℕ) → Carried a b bytes n d e → Cut (drop n bytes) p ls → Carried d e p (length p) x y → Carried a b bytes (n + length p) x y
+pub carried_line : (a d x : Ahead) (b e y : Ring Given) (bytes p : List ℕ) (ls : List (List ℕ)) (n : ℕ) → Carried a b bytes n d e → Cut (drop n bytes) p ls → Carried d e p (length p) x y → Carried a b bytes (n + length p) x y
 carried_line a d x b e y bytes p ls n k c j =
     let few = k.few in
     let size = ap length c.parts in

@@ -1,13 +1,14 @@
 -- Bytes that are read next, and what they put on the belt.
 use Rattle.std.specs.Prelude.{◌≡◌, ℕ, ◌<◌, ◌+◌, ◌≤◌, ◌⊎◌, true, List, [], ◌++◌, length, take, drop, slice_index_or, Option, vec_len, vec_capacity}
 use Rattle.lexer.specs.Text.{lines}
+use Rattle.belt.specs.Turned.{Ring}
 use Rattle.belt.specs.Belts.{contents, room}
 use Rattle.ahead.specs.declared.ahead.Ahead.{Ahead}
 use Rattle.ahead.specs.declared.given.Given.{Given}
 use Rattle.ahead.specs.Texts.{Reads}
 
 -- The first n of these bytes are read behind every text that was read before, and what they give is put on the belt.
-pub record Carried (a : Ahead) (b : List (Option Given)) (bytes : List ℕ) (n : ℕ) (d : Ahead) (e : List (Option Given)) : Type 0 where
+pub record Carried (a : Ahead) (b : Ring Given) (bytes : List ℕ) (n : ℕ) (d : Ahead) (e : Ring Given) : Type 0 where
   pub few : n ≤ length bytes
   pub put : List Given
   pub belt : contents e ≡ contents b ++ put
@@ -17,7 +18,7 @@ pub record Carried (a : Ahead) (b : List (Option Given)) (bytes : List ℕ) (n :
   pub capacity : vec_capacity a.held ≤ vec_capacity d.held
 
 -- All of the bytes were read, or those up to a line that is refused or after which the belt is full.
-abbrev pub Stops : List ℕ → ℕ → Ahead → List (Option Given) → Type 0
+abbrev pub Stops : List ℕ → ℕ → Ahead → Ring Given → Type 0
 Stops bytes n a b = (n ≡ length bytes) ⊎ ((a.is_over ≡ true) ⊎ (length (contents b) ≡ room b))
 
 -- From a to d the first n bytes were read: the line that comes next is longer than what a has room for.

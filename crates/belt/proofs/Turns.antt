@@ -90,9 +90,6 @@ module _ {T : Type 0} where
     pub put_held : (x : T) → n < length s → held (turned (set s ((h + n) % length s) (Some x)) h) ≡ held (turned s h) ++ x ∷ []
     put_held x room = ap held (turned_set s h n (Some x) hl room) ∙ held_put (turned s h) n x (omega (arith, long)) sound.2 sound.3
 
-    pub put_room : (x : T) → n < length s → length (turned (set s ((h + n) % length s) (Some x)) h) ≡ length (turned s h)
-    put_room x room = ap length (turned_set s h n (Some x) hl room) ∙ length-set (turned s h) n (Some x)
-
     pub put_sound : (x : T) → n < length s → Sound (set s ((h + n) % length s) (Some x)) h (n + 1)
     put_sound x room =
         let r = turned s h in
@@ -113,7 +110,6 @@ module _ {T : Type 0} where
         pub item : T
         pub was : get_or s h None ≡ Some item
         pub front : held (turned s h) ≡ item ∷ held (turned emptied ((h + 1) % length emptied))
-        pub wide : length (turned emptied ((h + 1) % length emptied)) ≡ length (turned s h)
         pub rest : Sound emptied ((h + 1) % length emptied) (n - 1)
 
       pub take_step : 0 < n → Taken
@@ -131,7 +127,6 @@ module _ {T : Type 0} where
             item = first.0;
             was = first.1;
             front = all ∙ ap (λ l. first.0 ∷ l) (sym (ap held after ∙ inside));
-            wide = ap length after ∙ length-append q (o ∷ []) ∙ omega (arith, ap length (turned_front s h hl));
             rest = (
               omega (arith, mod-lt (h + 1) {m = length emptied} (omega arith)),
               omega arith,

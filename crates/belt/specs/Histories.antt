@@ -1,5 +1,6 @@
 -- Whole histories of a belt: every list of puts and takes.
 use Rattle.std.specs.Prelude.{◌≡◌, List, [], ◌∷◌, ◌++◌, Some, None, Ok, Err, Option, Result}
+use Rattle.belt.specs.Turned.{Ring}
 use Rattle.belt.specs.Belts.{contents, room, Put, Took}
 use Rattle.belt.specs.declared.returned.Returned.{Returned}
 
@@ -10,14 +11,14 @@ pub data Call (T : Type 0) : Type 0 where
 
 module _ {T : Type 0} where
   -- What one call does to a belt.
-  abbrev pub Calls : List (Option T) → Call T → List (Option T) → Type 0
+  abbrev pub Calls : Ring T → Call T → Ring T → Type 0
   Calls b (put x r) c = Put b x r c
   Calls b (take r) c = Took b r c
 
   -- Some calls, one after another, from belt b to belt d.
-  abbrev pub History : List (Option T) → List (Call T) → List (Option T) → Type 0
+  abbrev pub History : Ring T → List (Call T) → Ring T → Type 0
   History b [] d = d ≡ b
-  History b (k ∷ ks) d = (c : List (Option T)) × Calls b k c × History c ks d
+  History b (k ∷ ks) d = (c : Ring T) × Calls b k c × History c ks d
 
   -- The items that were accepted, in order.
   abbrev pub accepted : List (Call T) → List T
@@ -34,5 +35,5 @@ module _ {T : Type 0} where
   handed_out (take None ∷ ks) = handed_out ks
 
   -- After every history from belt b: what was handed out is a front of what was accepted, and what is inside is the rest; the slots are as many as they were.
-  abbrev pub InOrder : List (Option T) → Type 0
-  InOrder b = (ks : List (Call T)) (d : List (Option T)) → History b ks d → (accepted ks ≡ handed_out ks ++ contents d) × (room d ≡ room b)
+  abbrev pub InOrder : Ring T → Type 0
+  InOrder b = (ks : List (Call T)) (d : Ring T) → History b ks d → (accepted ks ≡ handed_out ks ++ contents d) × (room d ≡ room b)

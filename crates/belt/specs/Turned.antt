@@ -1,6 +1,11 @@
--- The slots of a ring, in the order of their age, and the items that they hold.
+-- The slots of a ring, as the caller lent them and in the order of their age, and the items that they hold.
 use Rattle.std.specs.Prelude.{◌≡◌, ℕ, ◌-◌, ◌≤◌, List, ◌++◌, length, take, drop, Option}
 use Rattle.std.specs.List.{filter_map}
+
+-- A ring of slots: the slots where they lie, and the place of the oldest item.
+pub record Ring (T : Type 0) : Type 0 where
+  pub slots : List (Option T)
+  pub head : ℕ
 
 module _ {T : Type 0} where
   -- the slots from place h on, round to the one before it

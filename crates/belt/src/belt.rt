@@ -1,5 +1,5 @@
-ghost use Rattle.std.specs.Prelude.{List, Option};
-ghost use Rattle.belt.specs.Turned.{Sound, turned};
+ghost use Rattle.std.specs.Prelude.{◌≡◌, ◌+◌, ◌%◌, ◌<◌};
+ghost use Rattle.belt.specs.Turned.{Ring, Sound};
 
 use crate::returned::Returned;
 use faults::layer::Layer;
@@ -15,17 +15,25 @@ pub struct Belt<'a, T> {
     len: usize,
 }
 
-// A caller sees the slots in their order of age, and not where the ring begins.
-impl<'a, T> Model for Belt<'a, T> {
-    ghost Value = { List (Option T) };
+// A place past the last one is counted on from the first. By a comparison: a remainder takes longer than the rest of a put.
+fn round(place: usize, room: usize) -> usize
+    requires { place < room + room }
+    ensures { result ≡ place % room }
+{
+    if place < room { place } else { place - room }
+}
 
-    ghost view = { λ b. turned b.slots.now b.head };
+// A caller sees the slots where they lie, and which holds the oldest item: a refusal moves neither.
+impl<'a, T> Model for Belt<'a, T> {
+    ghost Value = { Ring T };
+
+    ghost view = { λ b. record { slots = b.slots.now; head = b.head } };
 
     ghost invariant = { λ b. Sound b.slots.now b.head b.len };
 }
 
 impl<'a, T: Drop> Belt<'a, T> {
-    ghost use Rattle.std.specs.Prelude.{◌≡◌, ◌+◌, ◌↔◌, [], length, IsTrue};
+    ghost use Rattle.std.specs.Prelude.{◌↔◌, [], length, IsTrue};
     ghost use Rattle.belt.specs.Belts.{contents, room, Put, Took};
     ghost use Rattle.belt.specs.Histories.{InOrder};
 
@@ -43,9 +51,10 @@ impl<'a, T: Drop> Belt<'a, T> {
         }
     }
 
-    /// How many items are inside.
+    /// How many items are inside. They lie in the slots from the oldest item's on, and no other slot holds one.
     pub fn len(&self) -> usize
-        ensures { result ≡ length (contents self.now) }
+        ensures value { result ≡ length (contents self.now) }
+        ensures sound { Sound self.now.slots self.now.head result }
     {
         self.len
     }
@@ -72,7 +81,7 @@ impl<'a, T: Drop> Belt<'a, T> {
             let fault = Layer::Belt.refuses(Reason::SlotsTaken, 0, 0);
             return Err(Returned { fault, item });
         }
-        let free = (self.head + self.len) % self.slots.len();
+        let free = round(self.head + self.len, self.slots.len());
         self.slots[free] = Some(item);
         self.len += 1;
         Ok(())
@@ -86,7 +95,7 @@ impl<'a, T: Drop> Belt<'a, T> {
             return None;
         }
         let item = self.slots[self.head].take();
-        self.head = (self.head + 1) % self.slots.len();
+        self.head = round(self.head + 1, self.slots.len());
         self.len -= 1;
         item
     }

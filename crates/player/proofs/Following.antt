@@ -4,6 +4,7 @@ use Rattle.std.proofs.lemmas.List.{length-map}
 use Rattle.faults.specs.Numbers.{number_of, reason_by}
 use Rattle.faults.specs.declared.fault.Fault.{Fault}
 use Rattle.servers.specs.Service.{Service}
+use Rattle.belt.specs.Turned.{Ring}
 use Rattle.belt.specs.Belts.{contents, room}
 use Rattle.sheets.specs.declared.sheet.SheetTask.{SheetTask}
 use Rattle.sheets.specs.Pages.{names}
@@ -189,7 +190,7 @@ module _ {R : Type 0} (places : R → ℕ) (service : R → ℕ → Service) (st
 
   -- A tick puts few records on an empty belt.
   pub few_put :
-      (a : Runner R) (b : Runner R) (before : List (Option Record)) (claims : List Bool) (after : List (Option Record)) → contents before ≡ [] → TickDone places steps a before claims b after →
+      (a : Runner R) (b : Runner R) (before : Ring Record) (claims : List Bool) (after : Ring Record) → contents before ≡ [] → TickDone places steps a before claims b after →
       length (contents after) ≤ 16
   few_put a b before claims after clear d =
       let most : vec_len a.graph.tasks ≤ 16 = omega (arith, a.graph.counts.few, a.graph.tasks.ok.0) in
@@ -204,7 +205,7 @@ module _ {R : Type 0} (places : R → ℕ) (service : R → ℕ → Service) (st
 
   module _ (shows : Shows places service steps) where
     tick_done :
-        (p q : Player R) (claims : List Bool) (after : List (Option Record)) (bytes : List ℕ) → q.tasks ≡ p.tasks → contents p.records ≡ [] → room q.records ≡ room after →
+        (p q : Player R) (claims : List Bool) (after : Ring Record) (bytes : List ℕ) → q.tasks ≡ p.tasks → contents p.records ≡ [] → room q.records ≡ room after →
         why (net_of p.runner.graph) (room p.records) (whole_with p.runner (contents p.records)) (tick claims) ≡ None → TickDone places steps p.runner p.records claims q.runner after →
         ((cost : Cost) (α : Arrivals) (fired : ℕ → ℕ) → Knows (net_of p.runner.graph) cost α fired p.ledger → InTurn (net_of p.runner.graph) cost α fired (lying (contents after)) →
         Lines (net_of p.runner.graph) cost α (names (map entry (vec_items p.tasks))) (lying (contents after)) bytes × Knows (net_of p.runner.graph) cost α (with_these fired (lying (contents after))) q.ledger) →
@@ -246,7 +247,7 @@ module _ {R : Type 0} (places : R → ℕ) (service : R → ℕ → Service) (st
     }
 
     pub tick_does :
-        {Z : Type 0} (p q : Player R) (claims wanted : List Bool) (after belt : List (Option Record)) (m : Net) (ts : List SheetTask) (v w : Vec ℕ Z) → claims ≡ wanted → q.tasks ≡ p.tasks → contents p.records ≡ [] → q.records ≡ belt →
+        {Z : Type 0} (p q : Player R) (claims wanted : List Bool) (after belt : Ring Record) (m : Net) (ts : List SheetTask) (v w : Vec ℕ Z) → claims ≡ wanted → q.tasks ≡ p.tasks → contents p.records ≡ [] → q.records ≡ belt →
         why (net_of p.runner.graph) (room p.records) (whole_with p.runner (contents p.records)) (tick claims) ≡ None → TickDone places steps p.runner p.records claims q.runner after →
         m ≡ net_of q.runner.graph → ts ≡ vec_items p.tasks → Told m (names (map entry ts)) p.ledger after v q.ledger belt w →
         Puts places service steps p (tick wanted) (Ok tt) v q w

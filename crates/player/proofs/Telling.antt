@@ -6,6 +6,7 @@ use Rattle.servers.specs.Figures.{ceiling}
 use Rattle.servers.specs.Rounding.{le_or_lt}
 use Rattle.texts.specs.Puts.{Added, Puts}
 use Rattle.lexer.specs.Text.{line_of}
+use Rattle.belt.specs.Turned.{Ring}
 use Rattle.belt.specs.Belts.{contents, room}
 use Rattle.flow.specs.Nets.{Net, Arrivals}
 use Rattle.flow.specs.Finish.{Cost, Finish}
@@ -19,7 +20,7 @@ use Rattle.texts.proofs.Chains.{both, len_added}
 use Rattle.player.specs.Lines.{record_line, Kept, Lines, none, more_of, with_these, InTime, InTurn, Told}
 
 -- some records have left the belt, and their lines are put
-pub record SoFar {Z : Type 0} (n : Net) (names : List (List ℕ)) (l : Ledger) (belt : List (Option Record)) (v : Vec ℕ Z) (l' : Ledger) (belt' : List (Option Record)) (w : Vec ℕ Z) : Type 0 where
+pub record SoFar {Z : Type 0} (n : Net) (names : List (List ℕ)) (l : Ledger) (belt : Ring Record) (v : Vec ℕ Z) (l' : Ledger) (belt' : Ring Record) (w : Vec ℕ Z) : Type 0 where
   pub gone : List Record
   pub split : contents belt ≡ gone ++ contents belt'
   pub bytes : List ℕ
@@ -80,7 +81,7 @@ line_put names r bound name v answer w is small firing clock told space put =
     let f = fits v (record_line names r bound) answer w p (omega (arith, s, space)) in
     record { well = f.0; short = s; added = f.1 }
 
-module _ {Z : Type 0} (n : Net) (names : List (List ℕ)) (l : Ledger) (belt : List (Option Record)) (v : Vec ℕ Z) where
+module _ {Z : Type 0} (n : Net) (names : List (List ℕ)) (l : Ledger) (belt : Ring Record) (v : Vec ℕ Z) where
   pub at_first : vec_len v + 76 * length (contents belt) ≤ vec_capacity v → SoFar n names l belt v l belt v
   at_first space = record {
     gone = [];
@@ -92,8 +93,8 @@ module _ {Z : Type 0} (n : Net) (names : List (List ℕ)) (l : Ledger) (belt : L
     lines = λ cost α fired knows turns. (none, knows, turns);
   }
 
-  module _ (l' : Ledger) (belt' : List (Option Record)) (w : Vec ℕ Z) (so_far : SoFar n names l belt v l' belt' w) where
-    pub at_last : contents belt' ≡ [] → (belt'' : List (Option Record)) → belt'' ≡ belt' → Told n names l belt v l' belt'' w
+  module _ (l' : Ledger) (belt' : Ring Record) (w : Vec ℕ Z) (so_far : SoFar n names l belt v l' belt' w) where
+    pub at_last : contents belt' ≡ [] → (belt'' : Ring Record) → belt'' ≡ belt' → Told n names l belt v l' belt'' w
     at_last empty belt'' same =
         let all : so_far.gone ≡ contents belt = sym (so_far.split ∙ ap (λ rs. so_far.gone ++ rs) empty ∙ append-nil so_far.gone) in
         record {
@@ -107,7 +108,7 @@ module _ {Z : Type 0} (n : Net) (names : List (List ℕ)) (l : Ledger) (belt : L
         }
 
     pub at_turn :
-        (r : Record) (belt'' : List (Option Record)) (bound : ℕ) (l'' : Ledger) (x : Vec ℕ Z) →
+        (r : Record) (belt'' : Ring Record) (bound : ℕ) (l'' : Ledger) (x : Vec ℕ Z) →
         contents belt' ≡ r ∷ contents belt'' → room belt'' ≡ room belt' → (r.task < n.tasks → Books n r.task l' bound l'') →
         {U E : Type 0} (answer : Result U E) → LinePut names (told r) bound w answer x →
         SoFar n names l belt v l'' belt'' x

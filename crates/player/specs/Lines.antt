@@ -4,6 +4,7 @@ use Rattle.texts.specs.Puts.{Added}
 use Rattle.lexer.specs.Text.{line_of}
 use Rattle.flow.specs.Nets.{Net, Arrivals}
 use Rattle.flow.specs.Finish.{Cost, Finish}
+use Rattle.belt.specs.Turned.{Ring}
 use Rattle.belt.specs.Belts.{contents, room}
 use Rattle.finish.specs.Filling.{more}
 use Rattle.finish.specs.Ledgers.{Knows, Due, TellsBound}
@@ -43,7 +44,7 @@ InTurn n cost α fired [] = Unit {0}
 InTurn n cost α fired (r ∷ rs) = (r.task < n.tasks) × (r.firing ≡ fired r.task) × Due n α fired r.task × InTime n cost α r × InTurn n cost α (more fired r.task) rs
 
 -- What is printed of the records on a belt, which leave it, and what the ledger knows then.
-pub record Told {Z : Type 0} (n : Net) (names : List (List ℕ)) (l : Ledger) (belt : List (Option Record)) (v : Vec ℕ Z) (l' : Ledger) (belt' : List (Option Record)) (w : Vec ℕ Z) : Type 0 where
+pub record Told {Z : Type 0} (n : Net) (names : List (List ℕ)) (l : Ledger) (belt : Ring Record) (v : Vec ℕ Z) (l' : Ledger) (belt' : Ring Record) (w : Vec ℕ Z) : Type 0 where
   pub bytes : List ℕ
   pub added : Added v bytes w
   pub emptied : contents belt' ≡ []

@@ -8,6 +8,7 @@ use Rattle.faults.specs.Numbers.{number_of, reason_by}
 use Rattle.faults.specs.declared.fault.Fault.{Fault}
 use Rattle.faults.specs.declared.layer.Layer.TheVariants as layer
 use Rattle.servers.specs.Service.{Service}
+use Rattle.belt.specs.Turned.{Ring}
 use Rattle.belt.specs.Belts.{contents, room}
 use Rattle.flow.specs.Nets.{Net, net_of}
 use Rattle.runs.specs.States.{put_out, ticked}
@@ -40,7 +41,7 @@ module _ (n : Net) (slots : ℕ) (x : Whole) (claims : List Bool) where
       pub goes : n.tasks ≤ slots - length x.belt → why n slots x (tick claims) ≡ None
       goes h = rw (eq-eqb (length claims) n.tasks fit, lt-ltb x.state.clock 1000000000 time, le-leb n.tasks (slots - length x.belt) h) refl
 
-module _ {R : Type 0} (places : R → ℕ) (steps : R → ℕ → Bool → Bool → R → Type 0) (a : Runner R) (before : List (Option Record)) (claims : List Bool) where
+module _ {R : Type 0} (places : R → ℕ) (steps : R → ℕ → Bool → Bool → R → Type 0) (a : Runner R) (before : Ring Record) (claims : List Bool) where
   -- A refused tick stays in the runs, and leads nowhere else.
   pub refused_goes_on :
       (k : ℕ) (e : Fault) → number_of (reason_by k) ≡ k → e ≡ fault k layer.Runner 0 0 →
@@ -57,7 +58,7 @@ module _ {R : Type 0} (places : R → ℕ) (steps : R → ℕ → Bool → Bool 
     its_belt = lies;
   }
 
-  module _ (service : R → ℕ → Service) (shows : Shows places service steps) (b : Runner R) (after : List (Option Record)) (d : TickDone places steps a before claims b after) where
+  module _ (service : R → ℕ → Service) (shows : Shows places service steps) (b : Runner R) (after : Ring Record) (d : TickDone places steps a before claims b after) where
     -- A run to runner a goes on by the tick.
     pub tick_leads :
         (first : R) (slots : ℕ) (said : List Said) (x : Whole) → Led places steps first slots said a x → why (net_of a.graph) slots x (tick claims) ≡ None →

@@ -1,17 +1,18 @@
 -- One record more, or none.
 use Rattle.std.proofs.Common.{◌≡◌, ℕ, ◌+◌, ◌-◌, ◌<◌, Bool, true, false, cond, List, [], ◌∷◌, ◌++◌, length, Ok, Err, Option, Result, sym, ◌∙◌, ap, add-one, arith, append_assoc, append-nil, length-append}
 use Rattle.std.proofs.lemmas.List.{map-append}
+use Rattle.belt.specs.Turned.{Ring}
 use Rattle.belt.specs.Belts.{contents, room, Put}
 use Rattle.belt.specs.declared.returned.Returned.{Returned}
 use Rattle.runs.specs.States.{State, Finished}
 use Rattle.runner.specs.declared.record.Record.{Record}
 use Rattle.runner.specs.Records.{told, lying, ended}
 
-pub put_room : (b c : List (Option Record)) (x : Record) (r : Result Unit (Returned Record)) → Put b x r c → room c ≡ room b
+pub put_room : (b c : Ring Record) (x : Record) (r : Result Unit (Returned Record)) → Put b x r c → room c ≡ room b
 put_room b c x (Ok _) p = p.2
 put_room b c x (Err _) p = ap room p.3
 
-pub put_there : (b c : List (Option Record)) (x : Record) (r : Result Unit (Returned Record)) → Put b x r c → length (contents b) < room b → contents c ≡ contents b ++ x ∷ []
+pub put_there : (b c : Ring Record) (x : Record) (r : Result Unit (Returned Record)) → Put b x r c → length (contents b) < room b → contents c ≡ contents b ++ x ∷ []
 put_there b c x (Ok _) p h = p.1
 put_there b c x (Err _) p h = absurd (omega (arith, p.0))
 

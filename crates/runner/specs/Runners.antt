@@ -10,6 +10,7 @@ use Rattle.graph.specs.Racked.{Racked, RefusesRack}
 use Rattle.flow.specs.Nets.{net_of}
 use Rattle.runs.specs.States.{State, Finished, new_state, ticked, put_out}
 use Rattle.runs.specs.Runs.{Call, Said, done, refused, Whole, Run, Sweep}
+use Rattle.belt.specs.Turned.{Ring}
 use Rattle.belt.specs.Belts.{contents, room}
 use Rattle.runner.specs.Records.{lying}
 use Rattle.runner.specs.declared.record.Record.{Record}
@@ -75,7 +76,7 @@ abbrev pub whole_with : {R : Type 0} → Runner R → List Record → Whole
 whole_with r rs = record { state = shown r.board; belt = lying rs }
 
 -- A tick that was done, of runner a with a belt, to runner b: by the rack's own ticks of the tasks' places, each with its claim, the rack comes to b's, where it has a place for each task; the board moves as the state does with these grants; and the records of the firings that end lie on the belt behind those before.
-pub record TickDone {R : Type 0} (places : R → ℕ) (steps : R → ℕ → Bool → Bool → R → Type 0) (a : Runner R) (before : List (Option Record)) (claims : List Bool) (b : Runner R) (after : List (Option Record)) : Type 0 where
+pub record TickDone {R : Type 0} (places : R → ℕ) (steps : R → ℕ → Bool → Bool → R → Type 0) (a : Runner R) (before : Ring Record) (claims : List Bool) (b : Runner R) (after : Ring Record) : Type 0 where
   pub its_graph : b.graph ≡ a.graph
   pub grants : ℕ → Bool
   pub sweep : vec_len a.graph.tasks ≤ places a.rack → Sweep steps claims grants a.rack (vec_len a.graph.tasks) b.rack
@@ -84,12 +85,12 @@ pub record TickDone {R : Type 0} (places : R → ℕ) (steps : R → ℕ → Boo
   pub same_room : room after ≡ room before
 
 -- So it is of a tick that was done; a refused one leaves runner and belt as they were.
-abbrev pub Ticks : {R : Type 0} → (R → ℕ) → (R → ℕ → Bool → Bool → R → Type 0) → Runner R → List (Option Record) → List Bool → Result Unit Fault → Runner R → List (Option Record) → Type 0
+abbrev pub Ticks : {R : Type 0} → (R → ℕ) → (R → ℕ → Bool → Bool → R → Type 0) → Runner R → Ring Record → List Bool → Result Unit Fault → Runner R → Ring Record → Type 0
 Ticks places steps a before claims (Ok _) b after = TickDone places steps a before claims b after
 Ticks places steps a before claims (Err _) b after = (b ≡ a) × (after ≡ before)
 
 -- Every run that led to runner a and this belt, with this call and its answer put on, leads to runner b and the belt after it.
-abbrev pub GoesOn : {R : Type 0} → (R → ℕ) → (R → ℕ → Bool → Bool → R → Type 0) → Runner R → List (Option Record) → Call → Result Unit Fault → Runner R → List (Option Record) → Type 0
+abbrev pub GoesOn : {R : Type 0} → (R → ℕ) → (R → ℕ → Bool → Bool → R → Type 0) → Runner R → Ring Record → Call → Result Unit Fault → Runner R → Ring Record → Type 0
 GoesOn {R} places steps a before call answer b after =
     (first : R) (said : List Said) (x : Whole) → Led places steps first (room before) said a x → x.belt ≡ lying (contents before) →
     Leads places steps first (room before) (said_of call answer ∷ said) b (lying (contents after))

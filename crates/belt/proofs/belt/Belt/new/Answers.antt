@@ -1,6 +1,6 @@
 -- A new belt is empty, and so begins every history.
-use Rattle.std.proofs.Common.{refl, ap, ◌∙◌, length, arith, rules}
-use Rattle.belt.proofs.Turns.{cleared, length_turned}
+use Rattle.std.proofs.Common.{refl, ap, length, arith, rules}
+use Rattle.belt.proofs.Turns.{cleared}
 use Rattle.belt.proofs.InOrder.{in_order}
 use Rattle.belt.proofs.belt.Belt.new.Goals as goal
 
@@ -12,4 +12,4 @@ invariant_of-result g c =
 pub returns : goal.returns
 returns g c =
     let empty = cleared _ (λ p o q r. search rules) c.fill_with.new.self _ _ c.fill_with.ensures.ran.1 in
-    record { empty = empty; room = length_turned c.fill_with.new.self 0 (omega arith) ∙ c.fill_with.ensures.len; history = in_order _ empty }
+    record { empty = empty; room = c.fill_with.ensures.len; history = in_order _ empty }
