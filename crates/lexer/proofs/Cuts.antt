@@ -7,6 +7,7 @@ use Rattle.std.specs.List.{IsFirstMatchOrLen, position_or_len, before_first, aft
 use Rattle.std.proofs.lemmas.List.{take_all, take_at, take_rest, drop_all}
 use Rattle.std.proofs.lemmas.List.Sums.{position_or_len_is}
 use Rattle.std.proofs.Math.Seq.{take-append_seam}
+use Rattle.std.proofs.lemmas.Bool.Decides.{nat_tests}
 use Rattle.std.proofs.lemmas.Grind.{common_steps}
 use Rattle.lexer.specs.Text.{separates, lines, fields, onto}
 
@@ -30,6 +31,11 @@ first_line bs line rest i parts long first some =
     let front : take (suc (position_or_len ends bs)) bs ≡ line = grind (arith, common_steps) in
     let back : drop (suc (position_or_len ends bs)) bs ≡ drop (length line) bs = grind (arith, common_steps) in
     lines_cut bs some ∙ (λ j. front j ∷ lines (back j))
+
+-- no line is left just where no byte is
+pub done_lines : (t : List ℕ) → eqb (length t) 0 ≡ eqb (length (lines t)) 0
+done_lines [] = refl
+done_lines (b ∷ bs) = let some = ap length (lines_cut (b ∷ bs) (omega arith)) in grind (arith, nat_tests)
 
 fields_step : (c : Bool) (b : ℕ) (bs : List ℕ) → (0 < length bs → fields bs ≡ before_first separates bs ∷ fields (after_first separates bs)) → cond c ([] ∷ fields bs) (onto b (fields bs)) ≡ take (cond (not c) (suc (position_or_len separates bs)) 0) (b ∷ bs) ∷ fields (drop (suc (cond (not c) (suc (position_or_len separates bs)) 0)) (b ∷ bs))
 fields_step true b bs more = refl

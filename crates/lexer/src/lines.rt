@@ -1,4 +1,4 @@
-ghost use Rattle.std.specs.Prelude.{◌≡◌};
+ghost use Rattle.std.specs.Prelude.{◌≡◌, ◌==◌, length};
 ghost use Rattle.std.specs.Iterator.{YieldsFirstRef, item_count};
 ghost use Rattle.lexer.specs.Text.{lines};
 
@@ -25,6 +25,14 @@ impl<'a> Lines<'a> {
         ensures { result ≡ lines text.now }
     {
         Lines { rest: text }
+    }
+
+    /// Whether no line is left.
+    #[tactic(auto, using(crate::proofs::Cuts::done_lines))]
+    pub fn is_done(&self) -> bool
+        ensures { result ≡ (length self.now == 0) }
+    {
+        self.rest.is_empty()
     }
 }
 

@@ -47,7 +47,10 @@ impl<'a> Iterator for Parts<'a> {
             return None;
         }
         let part = self.rest.split(|b| *b == b'\n' || *b == b' ').next()?;
-        self.rest = self.rest.get(part.len() + 1..).unwrap_or(&[]);
+        self.rest = self
+            .rest
+            .get(part.len() + 1..)
+            .unwrap_or(&self.rest[self.rest.len()..]);
         Some(part)
     }
 }

@@ -43,7 +43,9 @@ fn tokens_of_a_sheet(rt: HostRuntime) {
         };
         assert_eq!(rt; fields.next(), token);
     }
+    assert!(rt; !lines.is_done());
     assert_eq!(rt; lines.next(), Some(b"end".as_slice()));
+    assert!(rt; lines.is_done());
     assert_eq!(rt; lines.next(), None);
     assert_eq!(rt; lines.next(), None);
 }

@@ -1,5 +1,6 @@
 -- The first field that is left.
-use Rattle.std.proofs.Common.{rules, tests, arith, length, drop, sym, refl, ap, ◌∙◌, ◌<◌, ◌+◌, ◌∷◌}
+use Rattle.std.proofs.Common.{rules, tests, arith, ◌≡◌, length, length-take, take, drop, sym, ap, ◌∙◌, ◌<◌, ◌+◌, ◌-◌, [], ◌∷◌}
+use Rattle.std.proofs.lemmas.List.{drop_all, nil_from_length}
 use Rattle.std.proofs.lemmas.Fn.{always_returns_same}
 use Rattle.std.proofs.lemmas.Bool.Decides.{nat_tests}
 use Rattle.lexer.specs.Text.{separates, fields}
@@ -14,7 +15,9 @@ returns-clause-steps c =
     let some : 0 < length c.split.result.rest.now = grind (arith, nat_tests) in
     let first = s.2 separates (always_returns_same _ _ _ (λ a r f' k. search (rules, tests))) in
     let cut = first_part _ _ _ _ s.1 first.1 some in
-    let left = past_place c.self.inside.rest.now _ c.get.result _ _ c.get.ensures.lookup refl c.unwrap_or-self-inside.ensures in
+    let bs = c.self.inside.rest.now in
+    let none : take (length bs - length bs) (drop (length bs) bs) ≡ [] = nil_from_length _ (omega (arith, ap length (drop_all (length bs) bs (omega arith)), length-take (length bs - length bs) (drop (length bs) bs))) in
+    let left = past_place bs _ c.get.result _ _ c.get.ensures.lookup none c.unwrap_or-self-inside.ensures in
     sym c.self.view_is ∙ ap fields (sym e) ∙ cut ∙ ap (λ l. c.in_ok-part.part.now ∷ fields l) (ap (drop (length c.in_ok-part.part.now + 1)) e ∙ sym left)
 
 pub returns-clause-goes : goal.returns-clause-goes
