@@ -1,11 +1,9 @@
 -- Numbers and their digits.
-use Rattle.std.proofs.Common.{Result, Ok, ◌≡◌, ℕ, ◌^◌, ◌<◌, ◌≤◌, true, not, ◌||◌, eqb, List, [], ◌∷◌, length, get_or, decimal, sym, refl, subst, inl, inr, arith, rules}
+use Rattle.std.proofs.Common.{◌≡◌, ℕ, ◌+◌, ◌-◌, ◌*◌, ◌^◌, ◌%◌, ◌<◌, ◌≤◌, true, not, ◌||◌, eqb, List, [], ◌∷◌, length, get_or, decimal, sym, refl, ap, ◌∙◌, subst, inl, inr, arith, rules}
+use Rattle.std.specs.List.{fold}
 use Rattle.std.specs.Int.{IsInRange}
-use Rattle.std.specs.Str.{IsUtf8, IsAscii, all_ascii_digits}
-use Rattle.std.specs.Str.Parse.{ParsesUnsigned}
-use Rattle.std.proofs.lemmas.Str.{IsUtf8-from_ascii}
-use Rattle.std.proofs.lemmas.Str.Ascii.{IsAscii-nil, IsAscii-cons}
-use Rattle.std.proofs.lemmas.Str.Parse.{parse_gives, IsNumeralModel, numerals_by_fold, tells_all_ascii_digits, digits_value_short, digit_at}
+use Rattle.std.specs.Str.{all_ascii_digits}
+use Rattle.std.proofs.lemmas.Str.Parse.{IsNumeralModel, numerals_by_fold, tells_all_ascii_digits, digits_value_short, digit_at}
 use Rattle.std.proofs.lemmas.Fmt.{decimal-digits_value, digits_value-decimal, digits_decimal, length-decimal-le, decimal_nonempty, first_decimal, decimal_digit}
 use Rattle.std.proofs.lemmas.Bool.Decides.{nat_tests}
 use Rattle.std.proofs.lemmas.Bool.{and_parts, and_from, or_right, le-leb, cases_eq}
@@ -44,17 +42,24 @@ decimal_is n h =
     ] in
     (and_from _ _ d (and_from _ _ (le-leb 1 _ some) (and_from _ _ (le-leb _ 9 short) lead)), digits_value-decimal own n fits)
 
-digits_text : (bs : List ℕ) → all_ascii_digits bs ≡ true → IsAscii bs
-digits_text [] p = IsAscii-nil
-digits_text (b ∷ bs) p = let a = and_parts _ (all_ascii_digits bs) p in IsAscii-cons b bs (grind (arith, nat_tests)) (digits_text bs a.1)
+-- digits only add to a number
+pub grows : (n : ℕ) (ds : List ℕ) → n ≤ read_on n ds
+grows n [] = omega arith
+grows n (d ∷ ds) = omega (arith, grows (n * 10 + (d - 48)) ds)
 
--- a numeral is a text
-pub numeral_text : (bs : List ℕ) → numeral bs ≡ true → IsUtf8 bs
-numeral_text bs p = IsUtf8-from_ascii bs (digits_text bs (and_parts (all_ascii_digits bs) _ p).0)
+-- one digit more, as a word of 64 bits and a byte take it
+abbrev pub wrapped : ℕ → ℕ → ℕ
+wrapped n d = ((n * 10) % 2 ^ 64 + (d + (2 ^ 8 - 48)) % 2 ^ 8) % 2 ^ 64
 
--- and it is read as its value
-pub numeral_read : {E : Type 0} (bs : List ℕ) (r : Result ℕ E) → numeral bs ≡ true → ParsesUnsigned 64 10 bs r → r ≡ Ok (value bs)
-numeral_read bs r p h =
-    let n = numeral_is bs p in
-    let some : 0 < length bs = grind (arith, nat_tests) in
-    parse_gives own 64 bs r h (and_parts (all_ascii_digits bs) _ p).0 some (omega (arith, n.1))
+-- where the number fits, no step wraps
+pub folded : (ds : List ℕ) (n : ℕ) → all_ascii_digits ds ≡ true → read_on n ds < 2 ^ 64 → fold wrapped n ds ≡ read_on n ds
+folded [] n p h = refl
+folded (d ∷ ds) n p h =
+    let digit = digit_in (d ∷ ds) 0 p (omega arith) in
+    let less = grows (n * 10 + (d - 48)) ds in
+    let one : wrapped n d ≡ n * 10 + (d - 48) = omega (arith, digit.0, digit.1, less, h) in
+    ap (λ m. fold wrapped m ds) one ∙ folded ds (n * 10 + (d - 48)) (and_parts _ (all_ascii_digits ds) p).1 h
+
+-- a numeral is read as its value
+pub numeral_read : (ds : List ℕ) (r : ℕ) → numeral ds ≡ true → r ≡ fold wrapped 0 ds → r ≡ value ds
+numeral_read ds r p e = e ∙ folded ds 0 (and_parts (all_ascii_digits ds) _ p).0 (omega (arith, (numeral_is ds p).1))

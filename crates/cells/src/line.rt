@@ -18,5 +18,13 @@ pub fn is_well(line: &[u8]) -> bool
 pub fn is_parted(text: &[u8], n: usize) -> bool
     ensures { result ≡ parted n text.now }
 {
-    Parts::new(text).all(|part| !part.is_empty()) && Parts::new(text).count() == n
+    // A loop and no chain: one pass, which ends at the first field that is empty or one too many.
+    let mut count = 0;
+    for part in Parts::new(text) {
+        if part.is_empty() || count >= n {
+            return false;
+        }
+        count += 1;
+    }
+    count == n
 }

@@ -44,10 +44,11 @@ impl Table {
 fn names_columns(line: &[u8], columns: &[Column]) -> bool
     ensures { IsTrue result ↔ (fields line.now ≡ map column_word columns.now) }
 {
-    Parts::new(line).count() == columns.len()
-        && Parts::new(line)
-            .zip(columns)
-            .all(|(part, column)| Column::try_from(part) == Ok(*column))
+    // Nothing behind the first field that differs is looked at, and of more fields than columns only one.
+    Parts::new(line)
+        .zip(columns)
+        .all(|(part, column)| Column::try_from(part) == Ok(*column))
+        && Parts::new(line).take(columns.len() + 1).count() == columns.len()
 }
 
 /// Whether a line in order is the heading of this table.

@@ -16,7 +16,9 @@ use headings::table::{Table, is_heading};
 pub fn heading_in(line: Line<'_>, table: Table) -> Result<(), Fault>
     ensures { Meets result (exact_checks (heading table) line.entry.number line.entry.text.now) (λ _. Unit {0}) }
 {
-    line.must_be_given(is_heading(line.text, table))
+    // Only a line in order is compared, so that a foreign byte is told at once.
+    line.must_be_whole()?;
+    line.must(is_heading(line.text, table), Reason::Heading)
 }
 
 /// A line that has to be empty.

@@ -1,23 +1,29 @@
 -- All fields are filled, and there are as many as asked.
-use Rattle.std.proofs.Common.{◌≡◌, rules, tests, arith, length, leb, ap, inl}
+use Rattle.std.proofs.Common.{ℕ, ◌+◌, ◌&&◌, Bool, eqb, List, length, ap, ◌∙◌, arith}
 use Rattle.std.proofs.lemmas.Bool.Decides.{nat_tests}
-use Rattle.std.proofs.lemmas.Iterator.Search.{all_from_yields_List}
-use Rattle.std.proofs.lemmas.Iterator.Consumers.{YieldsList-from_first, count_from_yields_List}
-use Rattle.lexer.specs.Text.{fields}
 use Rattle.cells.specs.Bytes.{filled}
-use Rattle.cells.proofs.Parts.{fields_few}
 use Rattle.cells.proofs.line.is_parted.Goals as goal
 
-pub count-requires-clause-fits : goal.count-requires-clause-fits
-count-requires-clause-fits c = inl (omega (arith, ap length c.new-then-all.ensures, fields_few c.args.text.now))
+-- What is answered of a text, once some of its fields were counted and these are left.
+abbrev answer : ℕ → ℕ → List (List ℕ) → Bool
+answer n count left = filled left && eqb (count + length left) n
 
-pub returns-else-all : goal.returns-else-all
-returns-else-all c =
-    let all : c.all.result ≡ filled (fields c.args.text.now) = all_from_yields_List (λ f. leb 1 (length f)) _ _ _ c.all.ensures.ran (YieldsList-from_first (λ x. x.now) (λ p. p) _ c.new.ensures) (λ x b q k. search (rules, tests)) in
+pub loop-part-init : goal.loop-part-init
+loop-part-init c =
+    let all = c.into_iter-part-iterator.ensures.into_iter_gives ∙ c.new-part-items.ensures in
+    (omega arith, grind (arith, nat_tests))
+
+pub returns-then-is_empty : goal.returns-then-is_empty
+returns-then-is_empty c =
+    let more = c.loop-part.invariant.1 ∙ ap (answer c.args.n c.loop-part.count) c.in-Some.ensures.steps in
     grind (arith, nat_tests)
 
-pub returns-then-all : goal.returns-then-all
-returns-then-all c =
-    let all : c.all.result ≡ filled (fields c.args.text.now) = all_from_yields_List (λ f. leb 1 (length f)) _ _ _ c.all.ensures.ran (YieldsList-from_first (λ x. x.now) (λ p. p) _ c.new.ensures) (λ x b q k. search (rules, tests)) in
-    let many = count_from_yields_List c.new-then-all.result c.count.result c.count.ensures.ran (YieldsList-from_first (λ x. x.now) (λ p. p) _ c.new-then-all.ensures) in
+pub loop-part-preserved : goal.loop-part-preserved
+loop-part-preserved c =
+    let more = c.loop-part.invariant.1 ∙ ap (answer c.args.n c.loop-part.count) c.in-Some.ensures.steps in
+    (omega (arith, c.if-count-n.false), grind (arith, nat_tests))
+
+pub returns : goal.returns
+returns c =
+    let more = c.loop-part.invariant.1 ∙ ap (answer c.args.n c.loop-part.count) c.in-None.ensures.steps.0 in
     grind (arith, nat_tests)
