@@ -25,7 +25,12 @@ pub fn put(out: &mut Vec<u8>, bytes: &[u8]) -> Result<(), AllocError>
 pub fn put_number(out: &mut Vec<u8>, n: u64) -> Result<(), AllocError>
     ensures { Puts out.old (decimal n) result out.new }
 {
-    put(out, Buffer::new().format(n).as_bytes())
+    // Most of what is printed has one digit or two, which take less time than a buffer for any number.
+    match n {
+        0..=9 => put(out, &[b'0' + n as u8]),
+        10..=99 => put(out, &[b'0' + (n / 10) as u8, b'0' + (n % 10) as u8]),
+        _ => put(out, Buffer::new().format(n).as_bytes()),
+    }
 }
 
 /// Appends z in decimal, behind a minus sign where it is below 0.
