@@ -10,6 +10,9 @@ use Rattle.servers.specs.Rounding.{up_rises, up_some, up_more, up_least}
 use Rattle.servers.specs.SliceLaws.{worst_rises, worst_none, worst_most, pace_none, pace_least, pace_rises, pace_adds}
 
 module _ (p s t g : ℕ) where
+  float_none : float_wait p s t g 0 ≡ 0
+  float_none = refl
+
   float_soon : (n : ℕ) → 0 < n → n ≤ s - g → float_wait p s t g n ≡ ((p - t) - (s - g)) + n
   float_soon n some h =
       cond-false (n == 0) 0 (cond (nat_lt (s - g) n) ((p - t) + worst_of p s (n - (s - g))) (((p - t) - (s - g)) + n)) (ne_eqb n 0 (λ e. omega arith))
@@ -37,6 +40,9 @@ module _ (p s : ℕ) (some : 0 < s) (fits : s ≤ p) where
       (λ k. omega (arith, worst_some p s n k, worst_most p s some fits n))
       (λ (k : n ≤ 0). let z : n ≡ 0 = omega arith in rw z (omega arith))
       (cases_lt 0 n)
+
+  worst_over : (n : ℕ) → n ≤ worst_of p s n
+  worst_over n = omega arith
 
   module _ (t g : ℕ) (going : t < p) (most : g ≤ s) (each : g ≤ t) (room : s + t ≤ p + g) where
     float_least : (n : ℕ) → n ≤ float_wait p s t g n

@@ -24,6 +24,9 @@ module _ (p s at : ℕ) where
       ∙ cond-true (nat_lt (s - at) n) ((p - at) + fresh p s (n - (s - at))) n (lt-ltb (s - at) n h)
 
 module _ (p s : ℕ) (some : 0 < s) (fits : s ≤ p) where
+  fresh_least : (n : ℕ) → n ≤ fresh p s n
+  fresh_least n = omega arith
+
   fresh_rises : (m n : ℕ) → m ≤ n → fresh p s m ≤ fresh p s n
   fresh_rises m n h =
       let u = up_rises s some m n h in
