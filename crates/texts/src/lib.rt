@@ -25,7 +25,7 @@ pub fn put(out: &mut Vec<u8>, bytes: &[u8]) -> Result<(), AllocError>
 pub fn put_number(out: &mut Vec<u8>, n: u64) -> Result<(), AllocError>
     ensures { Puts out.old (decimal n) result out.new }
 {
-    // Most of what is printed has one digit or two, which take less time than a buffer for any number.
+    // One digit or two take less time without the buffer, which holds any number.
     match n {
         0..=9 => put(out, &[b'0' + n as u8]),
         10..=99 => put(out, &[b'0' + (n / 10) as u8, b'0' + (n % 10) as u8]),
